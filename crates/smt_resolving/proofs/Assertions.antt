@@ -5,6 +5,7 @@ use Rattle.formula_meaning.specs.Context.{Context}
 use Rattle.formula_meaning.specs.Tree.{Tree}
 use Rattle.qe_syntax.specs.Trees.{FormulaTree}
 use Rattle.formula_tree.specs.Accepted.{IsAccepted}
+use Rattle.formula_tree.specs.Resolving.{formula_variables}
 use Rattle.formula_resolving.specs.MetCauses.{IsRefused}
 use Rattle.formula_resolving.specs.Parts.{AreTold, IsToldAlone}
 use Rattle.formula_resolving.specs.Refusals.{IsFirstCause}
@@ -13,6 +14,7 @@ use Rattle.formula_resolving.specs.declared.error.StaticError.TheVariants as sta
 use Rattle.formula_resolving.specs.declared.parts.Part.{Part}
 use Rattle.smt_syntax.specs.Trees.{ExpressionTree}
 use Rattle.smt_meaning.specs.Atoms.{IsFormulaBelow, quantified_names}
+use Rattle.smt_meaning.specs.Levels.{levels, AreLevelsBelow}
 use Rattle.smt_meaning.specs.Meaning.{Scope, meaning, declared_scope, as_formula}
 use Rattle.smt_meaning.specs.Operators.{Meaning, Formula}
 use Rattle.smt_meaning.specs.Proper.{IsProper}
@@ -95,18 +97,21 @@ module _ {Id : Type 0} (c : Context) (limit : ℕ) (declared : List (List ℕ)) 
     within : MeansWithin c limit declared e f
     within = record { formula = means_formula k (Within n part) h; nodes = subst (λ m. m ≤ limit) (read_of k (Within n part) h).2.0 (read_of k (Within n part) h).2.1 }
 
-    told_alone : IsToldAlone c (assertion_levels declared e) f part
-    told_alone = let r = levelled.read (length declared + quantified_names e) below.names in record {
-      causes = subst (λ names. AreTold c [] names f part.causes) (sym (same_names_after (length declared + quantified_names e) f below.names)) r.causes;
+    told_among : (count : ℕ) → AreLevelsBelow count (formula_variables f) → IsToldAlone c (levels count) f part
+    told_among count l = let r = levelled.read count l in record {
+      causes = subst (λ names. AreTold c [] names f part.causes) (sym (same_names_after count f l)) r.causes;
       height = r.built.height;
     }
+
+    told_alone : IsToldAlone c (assertion_levels declared e) f part
+    told_alone = told_among (length declared + quantified_names e) below.names
 
     -- it is left out only where it is refused
     pub left_out : part.id ≡ None → IsRefused part.causes part.height
     left_out = (levelled.read (length declared + quantified_names e) below.names).built.left_out
 
     pub accepted_as : (id : Id) → part.id ≡ Some id → ((d : Context) (names : List (List ℕ)) (g : FormulaTree) → IsToldAlone d names g part → IsAccepted d [] names g) → IsAsserted c limit declared Q u e id
-    accepted_as id i a = (f, record { formula = within; accepted = a c (assertion_levels declared e) f told_alone; made = λ count l. (levelled.read count l).built.made id i })
+    accepted_as id i a = (f, record { formula = within; accepted = λ count l. a c (levels count) f (told_among count l); made = λ count l. (levelled.read count l).built.made id i })
 
     module _ (cause : StaticError) (r : (d : Context) (names : List (List ℕ)) (g : FormulaTree) → IsToldAlone d names g part → IsFirstCause d [] names g cause) where
       first : IsFirstCause c [] (assertion_levels declared e) f cause

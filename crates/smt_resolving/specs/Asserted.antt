@@ -37,10 +37,10 @@ pub record MeansWithin (c : Context) (limit : ℕ) (declared : List (List ℕ)) 
   pub formula : MeansFormula c declared e f
   pub nodes : formula_nodes f ≤ limit
 
--- No cause applies to the formula, and the id stands for its resolved form, however many levels are numbered.
+-- However many levels are numbered, no cause applies to the formula, and the id stands for its resolved form.
 pub record IsAssertedAs {Id : Type 0} (c : Context) (limit : ℕ) (declared : List (List ℕ)) (is_id : Id → Type 0) (tree : Id → Tree) (e : ExpressionTree) (f : FormulaTree) (id : Id) : Type 0 where
   pub formula : MeansWithin c limit declared e f
-  pub accepted : IsAccepted c [] (assertion_levels declared e) f
+  pub accepted : (count : ℕ) → AreLevelsBelow count (formula_variables f) → IsAccepted c [] (levels count) f
   pub made : (count : ℕ) → AreLevelsBelow count (formula_variables f) → IsMade is_id tree id (resolve c [] (levels count) f)
 
 abbrev pub IsAsserted : {Id : Type 0} → Context → ℕ → List (List ℕ) → (Id → Type 0) → (Id → Tree) → ExpressionTree → Id → Type 0

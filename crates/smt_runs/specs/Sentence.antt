@@ -1,14 +1,15 @@
 -- The sentence of a state: that there are values for the declared names with which all that is asserted is true.
-use Rattle.std.specs.Prelude.{◌≡◌, ℕ, suc, pos, max, List, [], ◌∷◌}
+use Rattle.std.specs.Prelude.{◌≡◌, ℕ, suc, max, List, [], ◌∷◌}
 use Rattle.formula_meaning.specs.declared.junction.Junction.TheVariants.{Conjunction}
 use Rattle.formula_meaning.specs.declared.quantifier.Quantifier.TheVariants.{Exists}
 use Rattle.formula_meaning.specs.Context.{Context}
 use Rattle.formula_meaning.specs.Formula.{Yes}
 use Rattle.formula_meaning.specs.Measured.{Stop, stopped}
-use Rattle.formula_meaning.specs.Point.{Point, Of}
+use Rattle.formula_meaning.specs.Point.{Of}
 use Rattle.formula_meaning.specs.Tree.{Tree}
 use Rattle.elimination_reference.specs.Reference.{reference}
 use Rattle.sample_reference.specs.Sample.{reference_sample}
+use Rattle.sample_reference.specs.Values.{origin}
 use Rattle.qe_syntax.specs.Trees.{FormulaTree}
 use Rattle.qe_syntax.specs.Value.{NamedPoint, TrueAt}
 use Rattle.formula_tree.specs.Resolving.{formula_variables, resolve}
@@ -53,10 +54,6 @@ resolved_sentence c s = resolve c [] (levels (level_count (formula_variables (se
 -- the reference elimination of the sentence stops
 abbrev pub ReferenceStops : Context → State → ℕ → Type 0
 ReferenceStops c s limit = (e : Stop) × (reference c limit (resolved_sentence c s) ≡ stopped e)
-
--- the point at which each name is 0
-abbrev pub origin : Point ℕ
-origin = record { at = λ n. pos 0; below = 1 }
 
 -- the reference sample of the sentence stops
 abbrev pub SampleStops : Context → State → ℕ → Type 0

@@ -1,0 +1,2 @@
+pub mod Resolvable
+pub mod Resolved

@@ -1,0 +1,19 @@
+-- Formulas that may stand asserted: they are resolved in the same way however many levels are numbered.
+use Rattle.std.specs.Prelude.{ℕ, List, []}
+use Rattle.formula_meaning.specs.Context.{Context}
+use Rattle.formula_meaning.specs.Every.{Every}
+use Rattle.qe_syntax.specs.FreeNames.{IsFree}
+use Rattle.qe_syntax.specs.Trees.{FormulaTree}
+use Rattle.formula_tree.specs.Accepted.{IsAccepted}
+use Rattle.formula_tree.specs.Resolving.{formula_variables}
+use Rattle.smt_meaning.specs.Atoms.{IsOfTheory}
+use Rattle.smt_meaning.specs.Levels.{levels, IsLevelBelow, AreLevelsBelow}
+
+-- Its atoms are of the theory, its names are those of levels, of which the free ones are below count, and no cause of a refusal applies
+-- to it, however many levels are numbered.
+pub record IsResolvable (c : Context) (count : ℕ) (f : FormulaTree) : Type 0 where
+  pub atoms : Every (IsOfTheory c) f
+  pub most : ℕ
+  pub below : AreLevelsBelow most (formula_variables f)
+  pub closed : (x : List ℕ) → IsFree f x → IsLevelBelow count x
+  pub accepted : (n : ℕ) → AreLevelsBelow n (formula_variables f) → IsAccepted c [] (levels n) f

@@ -1,0 +1,16 @@
+-- What is seen of a script that is being answered.
+use Rattle.std.specs.Prelude.{ℕ, List, Option}
+use Rattle.atom_normal.specs.declared.atom.Context.{Context}
+use Rattle.formula_tree.specs.declared.shape.Shape.{Shape}
+use Rattle.formula_store.specs.declared.id.FormulaId.{FormulaId}
+use Rattle.engine_answers.specs.FromBlockScheduler.{Limits}
+use Rattle.smtlib_front.specs.declared.kept.Kept.{Kept}
+
+-- its limits, the formulas of its store, the theory of its logic, the declared names, the ids of what is asserted, and the values that are kept
+pub record Seen : Type 0 where
+  pub limits : Limits
+  pub formulas : List (Shape FormulaId)
+  pub logic : Option Context
+  pub declared : List (List ℕ)
+  pub asserted : List FormulaId
+  pub kept : Kept

@@ -1,0 +1,10 @@
+//! A script in SMT-LIB 2.6 that is answered command by command.
+#![tactic(auto)]
+
+mod kept;
+mod smt;
+
+pub use engine_answers::Limits;
+pub use kept::Kept;
+pub use smt::Smt;
+pub use smt_runs::{SmtError, SmtReply};
