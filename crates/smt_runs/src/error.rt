@@ -1,8 +1,10 @@
 ghost use Rattle.std.specs.Prelude.{◌≡◌};
-ghost use Rattle.smt_runs.specs.Words.{of_reading, of_assertion};
+ghost use Rattle.smt_runs.specs.Words.{of_reading, of_assertion, word_of};
+ghost use Rattle.smt_runs.specs.declared.error.SmtError.TheVariants as error;
 
 use smt_reader::ReadError;
 use smt_resolving::AssertError;
+use std::alloc::AllocError;
 use thiserror::Error;
 
 /// Why a command is refused, or that memory ran out. The causes are ordered as they are looked for, and each is told by its word.
@@ -50,6 +52,38 @@ pub enum SmtError {
     /// There is no memory left.
     #[error("out of memory")]
     Memory,
+}
+
+impl SmtError {
+    /// The word of the refusal, as its line has it. It takes no memory.
+    pub fn word(self) -> &'static str
+        ensures { result.now ≡ word_of self }
+    {
+        match self {
+            SmtError::Lexical => "lexical",
+            SmtError::Nesting => "nesting",
+            SmtError::Syntax => "syntax",
+            SmtError::Mode => "mode",
+            SmtError::Declared => "declared",
+            SmtError::Undeclared => "undeclared",
+            SmtError::Sort => "sort",
+            SmtError::Nodes => "nodes",
+            SmtError::Nonlinear => "nonlinear",
+            SmtError::Division => "division",
+            SmtError::Depth => "depth",
+            SmtError::Overflow => "overflow",
+            SmtError::Text => "text",
+            SmtError::Memory => "memory",
+        }
+    }
+}
+
+impl From<AllocError> for SmtError {
+    ghost from_gives = { λ _ e. e ≡ error.Memory };
+
+    fn from(_error: AllocError) -> SmtError {
+        SmtError::Memory
+    }
 }
 
 impl From<ReadError> for SmtError {

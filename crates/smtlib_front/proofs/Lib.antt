@@ -1,0 +1,4 @@
+pub mod Causes
+pub mod Stored
+pub mod States
+pub mod Checked

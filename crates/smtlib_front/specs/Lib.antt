@@ -1,2 +1,4 @@
 pub mod Seen
 pub mod Represents
+pub mod Steps
+pub mod Words

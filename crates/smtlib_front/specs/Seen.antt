@@ -1,6 +1,6 @@
 -- What is seen of a script that is being answered.
 use Rattle.std.specs.Prelude.{ℕ, List, Option}
-use Rattle.atom_normal.specs.declared.atom.Context.{Context}
+use Rattle.atom_normal.specs.declared.atoms.Context.{Context}
 use Rattle.formula_tree.specs.declared.shape.Shape.{Shape}
 use Rattle.formula_store.specs.declared.id.FormulaId.{FormulaId}
 use Rattle.engine_answers.specs.FromBlockScheduler.{Limits}

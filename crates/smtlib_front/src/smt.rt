@@ -1,7 +1,10 @@
 ghost use Rattle.std.specs.Prelude.{◌≡◌, ◌≤◌};
 ghost use Rattle.smt_runs.specs.State.{State, first_state};
 ghost use Rattle.smt_runs.specs.Replies.{Replies};
+ghost use Rattle.smt_syntax.specs.CodeTrees.{command_tree};
+ghost use Rattle.smt_proper.specs.Commands.{HasProperNumbers};
 ghost use Rattle.smtlib_front.specs.Represents.{Represents};
+ghost use Rattle.smtlib_front.specs.Steps.{Does};
 
 use crate::kept::Kept;
 use atom_normal::Context;
@@ -9,7 +12,9 @@ use engine_answers::Limits;
 use formula_store::{FormulaId, Store};
 use formula_tree::Names;
 use qe_parallel::Gate;
+use smt_reader::read_command;
 use smt_runs::{SmtError, SmtReply};
+use smt_syntax::SmtCommand;
 use std::alloc::Global;
 use std::marker::Model;
 use std::thread::Threads;
@@ -17,13 +22,13 @@ use std::thread::Threads;
 /// What the commands of a script share. It is seen as its limits, its formulas and what the commands so far left.
 #[derive(Drop)]
 pub struct Smt {
-    alloc: Global,
-    limits: Limits,
-    store: Store,
-    logic: Option<Context>,
-    declared: Names,
-    asserted: Vec<FormulaId>,
-    kept: Kept,
+    pub(crate) alloc: Global,
+    pub(crate) limits: Limits,
+    pub(crate) store: Store,
+    pub(crate) logic: Option<Context>,
+    pub(crate) declared: Names,
+    pub(crate) asserted: Vec<FormulaId>,
+    pub(crate) kept: Kept,
 }
 
 impl Model for Smt {
@@ -66,6 +71,29 @@ impl Smt {
         ensures reply { (s : State) → Represents self.old s → (next : State) × Replies s self.old.limits.nodes bytes.now result next × Represents self.new next }
         ensures limits { self.new.limits ≡ self.old.limits }
     {
-        Err(SmtError::Memory)
+        let command = read_command(self.alloc, bytes)?;
+        self.answer(rt, &command, gate)
+    }
+
+    /// Does what the command says.
+    fn answer<R: Threads + Sync, G: Gate + Sync>(
+        &mut self,
+        rt: &R,
+        command: &SmtCommand,
+        gate: &G,
+    ) -> Result<SmtReply, SmtError>
+        requires proper { HasProperNumbers (command_tree command.now) }
+        ensures does { (s : State) → Represents self.old s → Does s self.old.limits.nodes (command_tree command.now) result self.new }
+        ensures limits { self.new.limits ≡ self.old.limits }
+    {
+        match command {
+            SmtCommand::Choose(sort) => self.choose(*sort),
+            SmtCommand::Ignored => Ok(SmtReply::Nothing),
+            SmtCommand::Declare(name) => self.declare(name),
+            SmtCommand::Assert(expression) => self.assert(expression),
+            SmtCommand::Check => self.check(rt, gate),
+            SmtCommand::Values(names) => self.values(names.items()),
+            SmtCommand::Exit => Ok(SmtReply::Finished),
+        }
     }
 }

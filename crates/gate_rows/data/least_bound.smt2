@@ -1,0 +1,10 @@
+; The least s for which the line x + s lies above 2*x wherever x is from 0 to 1.
+(set-info :smt-lib-version 2.6)
+(set-logic LRA)
+(declare-const s Real)
+(assert (forall ((x Real)) (=> (<= 0 x 1) (<= (* 2 x) (+ x s)))))
+(assert (forall ((t Real))
+  (=> (forall ((x Real)) (=> (<= 0 x 1) (<= (* 2 x) (+ x t)))) (<= s t))))
+(check-sat)
+(get-value (s))
+(exit)

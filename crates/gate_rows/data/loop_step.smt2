@@ -1,0 +1,11 @@
+; A loop counts i up by 2 while i < n, from an even i. Does it keep i <= n + 1, and i even?
+(set-info :status unsat)
+(set-logic QF_LIA)
+(declare-fun i () Int)
+(declare-fun n () Int)
+(declare-fun |i'| () Int)
+(assert (and (<= i (+ n 1)) ((_ divisible 2) i)))
+(assert (< i n))
+(assert (= |i'| (+ i 2)))
+(assert (not (and (<= |i'| (+ n 1)) ((_ divisible 2) |i'|))))
+(check-sat)

@@ -1,0 +1,50 @@
+//! The command that asks for the values of names.
+
+ghost use Rattle.std.specs.Prelude.{◌≡◌, not, is_some, position};
+ghost use Rattle.std.specs.List.{list_any};
+ghost use Rattle.qe_syntax.specs.Value.{same_name};
+ghost use Rattle.smt_runs.specs.State.{State};
+ghost use Rattle.smt_syntax.specs.Trees.{Values};
+ghost use Rattle.smtlib_front.specs.Represents.{Represents};
+ghost use Rattle.smtlib_front.specs.Steps.{Does};
+
+use crate::kept::Kept;
+use crate::smt::Smt;
+use qe_syntax::Name;
+use redlog_printer::PrintError;
+use smt_runs::{SmtError, SmtReply};
+use smt_texts::values_text;
+
+impl Smt {
+    /// Tells the values of these names, which the last check left.
+    pub(crate) fn values(&self, asked: &[Name]) -> Result<SmtReply, SmtError>
+        ensures { (s : State) → Represents self.now s → Does s self.now.limits.nodes (Values asked.now) result self.now }
+    {
+        if self.logic.is_none() {
+            return Err(SmtError::Mode);
+        }
+        let values = match &self.kept {
+            Kept::Nothing => return Err(SmtError::Mode),
+            Kept::TooLarge => None,
+            Kept::Values(values) => Some(values),
+        };
+        if self.has_undeclared(asked) {
+            return Err(SmtError::Undeclared);
+        }
+        let Some(values) = values else {
+            return Err(SmtError::Overflow);
+        };
+        match values_text(self.alloc, &self.declared, values, asked) {
+            Ok(line) => Ok(SmtReply::Printed(line)),
+            Err(PrintError::Text) => Err(SmtError::Text),
+            Err(PrintError::Memory) => Err(SmtError::Memory),
+        }
+    }
+
+    /// Whether one of the names is not declared.
+    fn has_undeclared(&self, asked: &[Name]) -> bool
+        ensures { result ≡ list_any (λ x. not (is_some (position (same_name x) self.now.declared))) asked.now }
+    {
+        asked.iter().any(|name| self.declared.find(name).is_none())
+    }
+}
