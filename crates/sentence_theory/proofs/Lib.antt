@@ -1,2 +1,3 @@
+mod Examples
 pub mod Constants
 pub mod Witnesses
