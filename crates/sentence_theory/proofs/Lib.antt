@@ -1,0 +1,3 @@
+mod Examples
+pub mod Constants
+pub mod Witnesses
