@@ -1,0 +1,4 @@
+mod ProperTokens
+mod ProperTrees
+mod ProperExpressions
+pub mod Spelled
