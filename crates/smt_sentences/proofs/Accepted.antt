@@ -55,6 +55,7 @@ nothing_bound : (n : ℕ) → ¬ (IsBound [] (level n))
 nothing_bound n b = absurd (cc (b.1))
 
 module _ (c : Context) (number : List ℕ → ℕ) where
+  -- none applies to formulas joined
   pub joined_uncaused : (fs : List FormulaTree) → AllByRecursion (IsUncaused c number) fs → IsUncaused c number (all_of fs)
   joined_uncaused fs h = record {
     bound_names = joined_nowhere (HasNoTree []) (λ x. ⊥) fs (all_weaker _ (λ f. ¬ (IsUnbound [] f)) (λ f u. u.bound_names) fs h);
@@ -67,6 +68,7 @@ module _ (c : Context) (number : List ℕ → ℕ) where
     passes = joined_nowhere (PassesInReading c [] number) (λ x. ⊥) fs (all_weaker _ (λ f. ¬ (Somewhere (PassesInReading c [] number) (λ x. ⊥) f)) (λ f u. u.passes) fs h);
   }
 
+  -- none applies to a formula under quantifiers of levels
   pub closed_uncaused : (n : ℕ) (xs : List (List ℕ)) (f : FormulaTree) → IsUncaused c number f → IsUncaused c number (closed Exists n xs f)
   closed_uncaused n xs f h = record {
     bound_names = closed_nowhere (HasNoTree []) (λ x. ⊥) (λ k s. s) n xs f h.bound_names;
@@ -82,6 +84,7 @@ module _ (c : Context) (number : List ℕ → ℕ) where
 -- ---- what is accepted where so many levels are numbered
 
 module _ (c : Context) (count : ℕ) (f : FormulaTree) (below : AreLevelsBelow count (formula_variables f)) where
+  -- none applies to what is accepted
   pub accepted_uncaused : IsAccepted c [] (levels count) f → IsUncaused c (place (levels count)) f
   accepted_uncaused a = subst (λ names. IsUncaused c (place names) f) (same_names_after count f below) (record {
     bound_names = a.bound_names;
@@ -94,6 +97,7 @@ module _ (c : Context) (count : ℕ) (f : FormulaTree) (below : AreLevelsBelow c
     passes = λ s. a.within (inr s);
   })
 
+  -- it is accepted where none applies and it is not too high
   pub uncaused_accepted : IsUncaused c (place (levels count)) f → ¬ (IsTooDeep [] f) → IsAccepted c [] (levels count) f
   uncaused_accepted h low =
       let u : IsUncaused c (place (names_after (levels count) f)) f = subst (λ names. IsUncaused c (place names) f) (sym (same_names_after count f below)) h in

@@ -17,6 +17,7 @@ sentence_tree c s h =
     closed_tree c (sentence_levels s) 0 s.declared (all_of s.asserted) (omega arith)
     ∙ ap (under_names 0 (length s.declared)) (joined_tree c (sentence_levels s) s.asserted)
 
+-- the names, the tree and the height of the resolved sentence
 pub sentence_is_made : SentenceIsMade
 sentence_is_made c s h = record {
   below = each_below c s h;

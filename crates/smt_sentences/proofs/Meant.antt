@@ -18,6 +18,7 @@ use Rattle.formula_tree.specs.Accepted.{IsAccepted}
 use Rattle.formula_tree.specs.Causes.{IsTooDeep, height_in_place, most_height}
 use Rattle.formula_tree.specs.Resolving.{place, formula_variables, resolve, at_names}
 use Rattle.sample_reference.specs.Values.{with_values, IsValue, origin}
+use Rattle.sample_reference.proofs.Chain.{origin_of}
 use Rattle.sample_reference.proofs.SamePoints.{values_of_theory}
 use Rattle.sentence_theory.specs.Leading.{named_from, AreWitnesses}
 use Rattle.smt_meaning.specs.Levels.{level, levels, AreLevelsBelow}
@@ -30,7 +31,7 @@ use Rattle.smt_sentences.specs.Resolvable.{IsResolvable}
 use Rattle.smt_sentences.specs.Resolved.{sentence_levels, asserted_tree, AreResolvable, SentenceIsMeant}
 use Rattle.smt_sentences.proofs.Accepted.{IsUncaused, joined_uncaused, closed_uncaused, accepted_uncaused, uncaused_accepted, height_inside}
 use Rattle.smt_sentences.proofs.Names.{sentence_below, joined_below, each_below, declared_within, joined_declared, sentence_closed}
-use Rattle.smt_sentences.proofs.Points.{named_point, have_values, values_there, numbers_agree, of_origin, closed_truth}
+use Rattle.smt_sentences.proofs.Points.{named_point, have_values, values_there, numbers_agree, closed_truth}
 use Rattle.smt_sentences.proofs.Trees.{joined_tree, same_truth, normal_tree, free_written}
 
 -- ---- what is asserted, each and together
@@ -95,7 +96,7 @@ module _ (c : Context) (s : State) (h : AreResolvable c s) (low : ¬ (IsTooDeep 
     point = with_values origin (named_from 0 vs)
 
     of_point : Of c (named_point point)
-    of_point = values_of_theory c (named_from 0 vs) origin w.each (of_origin c)
+    of_point = values_of_theory c (named_from 0 vs) origin w.each (origin_of c)
 
     says : Says c (all_of s.asserted) (named_point point)
     says =
@@ -120,6 +121,7 @@ module _ (c : Context) (s : State) (h : AreResolvable c s) (low : ¬ (IsTooDeep 
       let b = same_truth c (sentence_levels s) (sentence s) (sentence_below c s h) sentence_accepted p o in
       (λ t. b.1 (a.0 t), λ t. a.1 (b.0 t))
 
+-- the resolved sentence has the truth of the written one, and witnesses are values
 pub sentence_is_meant : SentenceIsMeant
 sentence_is_meant c s h low = record {
   normal = subst (Every (IsNormal c)) (tree c s h low) (normal_tree c (sentence_levels s) (all_of s.asserted) (joined_below c s h) (joined_accepted c s h low));

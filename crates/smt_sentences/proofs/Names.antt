@@ -100,16 +100,19 @@ module _ (c : Context) (s : State) (h : AreResolvable c s) where
       closed_levels 0 s.declared (all_of s.asserted) (joined_has IsLevel s.asserted
       (all_weaker (IsResolvable c (length s.declared)) (HaveNames IsLevel) (λ f r. all_weaker (IsLevelBelow r.most) IsLevel (λ x b. (b.0, b.2)) (formula_variables f) r.below) s.asserted h))
 
+  -- each name of the sentence is that of a level below their count
   pub sentence_below : AreLevelsBelow (sentence_levels s) (formula_variables (sentence s))
   sentence_below = levels_counted (formula_variables (sentence s)) are_levels
 
+  -- so is each name of what is asserted
   pub joined_below : AreLevelsBelow (sentence_levels s) (formula_variables (all_of s.asserted))
   joined_below = inside_has (IsLevelBelow (sentence_levels s)) 0 s.declared (all_of s.asserted) sentence_below
 
+  -- and of each formula of it
   pub each_below : AllByRecursion (λ f. AreLevelsBelow (sentence_levels s) (formula_variables f)) s.asserted
   each_below = each_has (IsLevelBelow (sentence_levels s)) s.asserted joined_below
 
-  -- the declared names are among them
+  -- the levels of the declared names are among them
   pub declared_within : length s.declared ≤ sentence_levels s
   declared_within = let l = closed_within (sentence_levels s) 0 s.declared (all_of s.asserted) (omega arith) sentence_below in omega arith
 
@@ -119,6 +122,7 @@ module _ (c : Context) (s : State) (h : AreResolvable c s) where
       joined_free (IsLevelBelow (length s.declared)) s.asserted
       (all_weaker (IsResolvable c (length s.declared)) (λ f. (x : List ℕ) → IsFree f x → IsLevelBelow (length s.declared) x) (λ f r. r.closed) s.asserted h)
 
+  -- the sentence has no free name
   pub sentence_closed : (x : List ℕ) → ¬ (IsFree (sentence s) x)
   sentence_closed x i =
       let r = closed_free 0 s.declared (all_of s.asserted) x i in

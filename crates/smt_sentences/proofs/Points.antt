@@ -79,9 +79,11 @@ named_at q [] = pos 0
 named_at q (n ∷ []) = q.at n
 named_at q (m ∷ n ∷ ns) = pos 0
 
+-- the point of these values
 abbrev pub named_point : Point ℕ → NamedPoint
 named_point q = record { at = named_at q; below = q.below }
 
+-- the declared names have there the values of their numbers
 pub have_values : (n : ℕ) (xs : List (List ℕ)) (vs : List Frac) (q : Point ℕ) → length vs ≡ length xs → AreThere n vs q → HaveValues n xs vs (named_point q)
 have_values n [] [] q e h = tt
 have_values n [] (v ∷ vs) q e h = absurd (omega arith)
@@ -101,10 +103,6 @@ numbers_agree count P q b = record { same_below = refl; same_at = λ y u. sym (a
     zero_more y = let e : 0 + y ≡ y = omega arith in ap q.at e
 
 -- ---- formulas without free names
-
-pub of_origin : (c : Context) → Of c origin
-of_origin Fields = omega arith
-of_origin Integers = refl
 
 allowed_of : (c : Context) (q : Point ℕ) → Of c q → Allowed c q.below
 allowed_of Fields q o = o

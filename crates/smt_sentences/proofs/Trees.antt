@@ -41,6 +41,7 @@ module _ (c : Context) (count : ℕ) where
   list_trees [] = refl
   list_trees (f ∷ fs) = ap (also (by_levels f)) (list_trees fs)
 
+  -- the formulas are joined in the same way
   pub joined_tree : (fs : List FormulaTree) → by_levels (all_of fs) ≡ conjunction (map by_levels fs)
   joined_tree [] = refl
   joined_tree (f ∷ []) = refl
