@@ -1,5 +1,5 @@
 ghost use Rattle.std.specs.Prelude.{◌≡◌};
-ghost use Rattle.smt_runs.specs.Words.{of_reading, of_assertion};
+ghost use Rattle.smt_runs.specs.Words.{of_reading, of_assertion, word_of};
 
 use smt_reader::ReadError;
 use smt_resolving::AssertError;
@@ -50,6 +50,30 @@ pub enum SmtError {
     /// There is no memory left.
     #[error("out of memory")]
     Memory,
+}
+
+impl SmtError {
+    /// The word of the refusal, as its line has it. It takes no memory.
+    pub fn word(self) -> &'static str
+        ensures { result.now ≡ word_of self }
+    {
+        match self {
+            SmtError::Lexical => "lexical",
+            SmtError::Nesting => "nesting",
+            SmtError::Syntax => "syntax",
+            SmtError::Mode => "mode",
+            SmtError::Declared => "declared",
+            SmtError::Undeclared => "undeclared",
+            SmtError::Sort => "sort",
+            SmtError::Nodes => "nodes",
+            SmtError::Nonlinear => "nonlinear",
+            SmtError::Division => "division",
+            SmtError::Depth => "depth",
+            SmtError::Overflow => "overflow",
+            SmtError::Text => "text",
+            SmtError::Memory => "memory",
+        }
+    }
 }
 
 impl From<ReadError> for SmtError {
