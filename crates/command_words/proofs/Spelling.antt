@@ -1,16 +1,16 @@
 -- Words give at most one choice of options.
 use Rattle.std.proofs.Common.{◌≡◌, ℕ, suc, ◌+◌, ◌-◌, ◌<◌, ◌≤◌, List, [], ◌∷◌, ◌++◌, length, get_or, drop, slice_index_or, refl, sym, ap, ◌∙◌, subst, length-drop, take, inl, inr, ◌⊎◌, ⊎_elim, arith, nat_eq, eq-eqb}
-use Rattle.std.proofs.lemmas.List.{drop-drop}
 use Rattle.std.proofs.Math.Seq.{take-length}
-use Rattle.std.specs.Prelude.{Option, Some, None, MatchOption, is_some, true, false, string_bytes}
+use Rattle.std.specs.Prelude.{Option, Some, None, MatchOption, is_some, true, false, string_bytes, ◌↔◌}
 use Rattle.std.specs.declared.alloc.Global.{Global}
 use Rattle.std.specs.declared.string.String.{String}
 use Rattle.command_words.specs.declared.options.Choice.{Choice}
 use Rattle.command_words.specs.declared.options.Choice.TheVariants.{Nodes, Workers, Generate}
+use Rattle.command_words.specs.declared.options.Language.TheVariants.{Redlog, SmtLib}
 use Rattle.command_words.specs.declared.options.Options.{Options}
 use Rattle.command_words.specs.declared.options.TheConstants.{CHOICES}
 use Rattle.command_words.specs.Value.{value_of}
-use Rattle.command_words.specs.Words.{name_of, greatest_of, given, with_value, Gives, apart, joined, Begins, SpellsAfter, over, option, Spells}
+use Rattle.command_words.specs.Words.{name_of, greatest_of, given, with_value, smt_flag, with_smt, no_options, Gives, apart, joined, Begins, BeginsFlag, SpellsAfter, over, option, flag, Spells}
 use Rattle.command_words.specs.OptionIds.{SpellOnce}
 
 pub some_injective : {A : Type 0} (x y : A) → Some x ≡ Some y → x ≡ y
@@ -44,6 +44,12 @@ same_name Workers Generate s t e = absurd (differ 119 103 refl (third_letter e))
 same_name Generate Nodes s t e = absurd (differ 103 110 refl (third_letter e))
 same_name Generate Workers s t e = absurd (differ 103 119 refl (third_letter e))
 same_name Generate Generate s t e = record { choice = refl; tail = ap (λ (xs : List ℕ). drop 10 xs) e }
+
+-- the flag is none of the names
+no_flag : (c : Choice) (t : List ℕ) → ¬ (name_of c ++ t ≡ smt_flag)
+no_flag Nodes t e = differ 110 115 refl (third_letter e)
+no_flag Workers t e = differ 119 115 refl (third_letter e)
+no_flag Generate t e = differ 103 115 refl (third_letter e)
 
 record SameGift (m n : ℕ) (these those : List (String Global)) : Type 0 where
   value : m ≡ n
@@ -113,40 +119,79 @@ pub record Opens (before : Options) (words : List (String Global)) (all : Option
   pub begins : Begins choice words n rest
   pub more : SpellsAfter (with_value choice n before) rest all
 
-pub opened : {before : Options} {words : List (String Global)} {all : Options} → SpellsAfter before words all → ((words ≡ []) × (all ≡ before)) ⊎ Opens before words all
-opened over = inl (refl, refl)
-opened (option {rest = rest} {n = n} choice free begins more) = inr (record { choice = choice; n = n; rest = rest; free = free; begins = begins; more = more })
+-- words that are left begin with the flag
+pub record OpensFlag (before : Options) (words : List (String Global)) (all : Options) : Type 0 where
+  pub rest : List (String Global)
+  pub free : before.language ≡ Redlog
+  pub begins : BeginsFlag words rest
+  pub more : SpellsAfter (with_smt before) rest all
 
--- no options stand at words that are not empty and begin with none
+pub opened : {before : Options} {words : List (String Global)} {all : Options} → SpellsAfter before words all
+    → ((words ≡ []) × (all ≡ before)) ⊎ (Opens before words all ⊎ OpensFlag before words all)
+opened over = inl (refl, refl)
+opened (option {rest = rest} {n = n} choice free begins more) = inr (inl (record { choice = choice; n = n; rest = rest; free = free; begins = begins; more = more }))
+opened (flag {rest = rest} free begins more) = inr (inr (record { rest = rest; free = free; begins = begins; more = more }))
+
+-- words that begin with an option do not begin with the flag
+not_both : (c : Choice) (words : List (String Global)) (n : ℕ) (these those : List (String Global)) → Begins c words n these → ¬ BeginsFlag words those
+not_both c words n these those a b =
+    let word = head_same a.word b.word a.others those (sym a.words_are ∙ b.words_are) in
+    no_flag c a.tail (sym a.word_is ∙ ap string_bytes word ∙ b.word_is)
+
+-- no options stand at words that are not empty and begin with none, nor with the flag
 pub none_begins : (before : Options) (words : List (String Global)) → ¬ (words ≡ []) → ((c : Choice) (n : ℕ) (rest : List (String Global)) → ¬ Begins c words n rest)
-    → (all : Options) → ¬ SpellsAfter before words all
-none_begins before words some none all h = ⊎_elim (λ e. some e.0) (λ o. none o.choice o.n o.rest o.begins) (opened h)
+    → ((rest : List (String Global)) → ¬ BeginsFlag words rest) → (all : Options) → ¬ SpellsAfter before words all
+none_begins before words some none unflagged all h =
+    ⊎_elim (λ e. some e.0) (λ s. ⊎_elim (λ o. none o.choice o.n o.rest o.begins) (λ o. unflagged o.rest o.begins) s) (opened h)
 
 module _ (before : Options) (words : List (String Global)) (some : ¬ (words ≡ [])) (c : Choice) (n : ℕ) (rest : List (String Global)) (begins : Begins c words n rest) where
   -- an option that was given is not given again
   pub given_twice : is_some (given c before) ≡ true → (all : Options) → ¬ SpellsAfter before words all
   given_twice was all h =
-      ⊎_elim (λ e. some e.0) (λ o. let same = same_option o.choice c words o.n n o.rest rest o.begins begins in
-      let free = subst (λ (k : Choice). given k before ≡ None) same.choice o.free in let bad : true ≡ false = sym was ∙ ap is_some free in absurd (cc)) (opened h)
+      ⊎_elim (λ e. some e.0) (λ s. ⊎_elim (λ o. let same = same_option o.choice c words o.n n o.rest rest o.begins begins in
+      let free = subst (λ (k : Choice). given k before ≡ None) same.choice o.free in let bad : true ≡ false = sym was ∙ ap is_some free in absurd (cc))
+      (λ o. not_both c words n rest o.rest begins o.begins) s) (opened h)
 
   -- what follows the option is spelled after it
   pub follows : (all : Options) → SpellsAfter before words all → SpellsAfter (with_value c n before) rest all
   follows all h =
-      ⊎_elim (λ e. absurd (some e.0)) (λ o. let same = same_option o.choice c words o.n n o.rest rest o.begins begins in
+      ⊎_elim (λ e. absurd (some e.0)) (λ s. ⊎_elim (λ o. let same = same_option o.choice c words o.n n o.rest rest o.begins begins in
       subst (λ (ws : List (String Global)). SpellsAfter (with_value c n before) ws all) same.rest
       (subst (λ (m : ℕ). SpellsAfter (with_value c m before) o.rest all) same.value
-      (subst (λ (k : Choice). SpellsAfter (with_value k o.n before) o.rest all) same.choice o.more))) (opened h)
+      (subst (λ (k : Choice). SpellsAfter (with_value k o.n before) o.rest all) same.choice o.more)))
+      (λ o. absurd (not_both c words n rest o.rest begins o.begins)) s) (opened h)
+
+module _ (before : Options) (words : List (String Global)) (rest : List (String Global)) (begins : BeginsFlag words rest) where
+  flagged : ¬ (words ≡ [])
+  flagged e = let bad = sym e ∙ begins.words_are in absurd (cc)
+
+  -- a flag that was given is not given again
+  pub flag_twice : before.language ≡ SmtLib → (all : Options) → ¬ SpellsAfter before words all
+  flag_twice was all h =
+      ⊎_elim (λ e. flagged e.0) (λ s. ⊎_elim (λ o. not_both o.choice words o.n o.rest rest o.begins begins)
+      (λ o. let bad : Redlog ≡ SmtLib = sym o.free ∙ was in absurd (cc)) s) (opened h)
+
+  -- what follows the flag is spelled after it
+  pub flag_follows : (all : Options) → SpellsAfter before words all → SpellsAfter (with_smt before) rest all
+  flag_follows all h =
+      ⊎_elim (λ e. absurd (flagged e.0)) (λ s. ⊎_elim (λ o. absurd (not_both o.choice words o.n o.rest rest o.begins begins))
+      (λ o. subst (λ (ws : List (String Global)). SpellsAfter (with_smt before) ws all)
+      (tail_same o.begins.word begins.word o.rest rest (sym o.begins.words_are ∙ begins.words_are)) o.more) s) (opened h)
 
 not_empty : (words others : List (String Global)) (word : String Global) → words ≡ word ∷ others → ¬ (words ≡ [])
 not_empty words others word e h = let bad = sym h ∙ e in absurd (cc)
 
 spelled_once : {before all : Options} {words : List (String Global)} → SpellsAfter before words all → (other : Options) → SpellsAfter before words other → all ≡ other
-spelled_once {words = words} over other h = ⊎_elim (λ e. sym e.1) (λ o. absurd (not_empty [] o.begins.others o.begins.word o.begins.words_are refl)) (opened h)
+spelled_once {words = words} over other h =
+    ⊎_elim (λ e. sym e.1) (λ s. ⊎_elim (λ o. absurd (not_empty [] o.begins.others o.begins.word o.begins.words_are refl))
+    (λ o. absurd (not_empty [] o.rest o.begins.word o.begins.words_are refl)) s) (opened h)
 spelled_once {before = before} (option {words = words} {rest = rest} {n = n} choice free begins more) other h =
     spelled_once more other (follows before words (not_empty words begins.others begins.word begins.words_are) choice n rest begins other h)
+spelled_once {before = before} (flag {words = words} {rest = rest} free begins more) other h =
+    spelled_once more other (flag_follows before words rest begins other h)
 
 pub words_spell_once : SpellOnce
-words_spell_once words one other h k = spelled_once h other k
+words_spell_once words one other h k = spelled_once h.gives other k.gives
 
 -- ---- what the functions find
 
@@ -206,22 +251,47 @@ pub not_given : (o : Option ℕ) → is_some o ≡ false → o ≡ None
 not_given None e = refl
 not_given (Some n) e = absurd (cc)
 
-pub unspelled : (words : List (String Global)) (r : Option Options) → r ≡ None → ((all : Options) → ¬ Spells words all)
-    → MatchOption r (¬ ((options : Options) × Spells words options)) (λ options. Spells words options)
-unspelled words None e h = λ (all, s). h all s
-unspelled words (Some x) e h = absurd (cc)
+pub some_words : (words : List (String Global)) → 0 < length words → ¬ (words ≡ [])
+some_words words h e = let none : length words ≡ 0 = ap length e in omega arith
 
-module _ (before next : Options) (words : List (String Global)) (i k : ℕ) (inside : i < length words) (c : Choice) (n : ℕ) (begins : Begins c (drop i words) n (drop k (drop i words)))
+pub flag_long : (words rest : List (String Global)) → BeginsFlag words rest → 1 ≤ length words
+flag_long words rest b =
+    let long : length words ≡ length rest + 1 = ap length b.words_are ∙ add-one-length b.word rest in omega arith
+
+-- an answer of none, where nothing is spelled
+pub nothing_spelled : {A : Type 0} (P : Options → Type 0) (Q : A → Type 0) (r : Option A) → r ≡ None → ((all : Options) → ¬ P all)
+    → MatchOption r ((all : Options) → ¬ P all) Q
+nothing_spelled P Q None e h = h
+nothing_spelled P Q (Some x) e h = absurd (cc)
+
+-- words that give the flag and a generated script are not of the form
+pub excluded : (words : List (String Global)) (o : Options) → SpellsAfter no_options words o → o.language ≡ SmtLib → is_some o.generate ≡ true
+    → ¬ ((options : Options) × Spells words options)
+excluded words o s smt some (all, spells) =
+    let same : o ≡ all = spelled_once s all spells.gives in
+    let none = spells.one_script (subst (λ (x : Options). x.language ≡ SmtLib) same smt) in
+    let bad : true ≡ false = sym some ∙ ap (λ (x : Options). is_some x.generate) same ∙ ap is_some none in absurd (cc)
+
+pub not_excluded : (words : List (String Global)) (o : Options) → SpellsAfter no_options words o → (o.language ≡ SmtLib → is_some o.generate ≡ false) → Spells words o
+not_excluded words o s free = record { gives = s; one_script = λ smt. not_given o.generate (free smt) }
+
+module _ (before next : Options) (words : List (String Global)) (some : ¬ (words ≡ [])) (c : Choice) (n k : ℕ) (begins : Begins c words n (drop k words))
     (next_is : next ≡ with_value c n before) where
-  left : drop k (drop i words) ≡ drop (i + k) words
-  left = drop-drop k i words
-
-  pub back : is_some (given c before) ≡ false → (all : Options) → SpellsAfter next (drop (i + k) words) all → SpellsAfter before (drop i words) all
+  back : is_some (given c before) ≡ false → (all : Options) → SpellsAfter next (drop k words) all → SpellsAfter before words all
   back free all s =
-      option c (not_given (given c before) free) begins
-      (subst (λ (ws : List (String Global)). SpellsAfter (with_value c n before) ws all) (sym left) (subst (λ (o : Options). SpellsAfter o (drop (i + k) words) all) next_is s))
+      option c (not_given (given c before) free) begins (subst (λ (o : Options). SpellsAfter o (drop k words) all) next_is s)
 
-  pub onward : (all : Options) → SpellsAfter before (drop i words) all → SpellsAfter next (drop (i + k) words) all
-  onward all s =
-      subst (λ (o : Options). SpellsAfter o (drop (i + k) words) all) (sym next_is) (subst (λ (ws : List (String Global)). SpellsAfter (with_value c n before) ws all) left
-      (follows before (drop i words) (some_left i words inside) c n (drop k (drop i words)) begins all s))
+  onward : (all : Options) → SpellsAfter before words all → SpellsAfter next (drop k words) all
+  onward all s = subst (λ (o : Options). SpellsAfter o (drop k words) all) (sym next_is) (follows before words some c n (drop k words) begins all s)
+
+  -- the words spell what those after the option spell
+  pub after_option : is_some (given c before) ≡ false → (all : Options) → SpellsAfter before words all ↔ SpellsAfter next (drop k words) all
+  after_option free all = (onward all, back free all)
+
+-- the words spell what those after the flag spell
+pub after_flag : (before next : Options) (words rest : List (String Global)) → BeginsFlag words rest → before.language ≡ Redlog → next ≡ with_smt before
+    → (all : Options) → SpellsAfter before words all ↔ SpellsAfter next rest all
+after_flag before next words rest begins free next_is all = (
+  λ s. subst (λ (o : Options). SpellsAfter o rest all) (sym next_is) (flag_follows before words rest begins all s),
+  λ s. flag free begins (subst (λ (o : Options). SpellsAfter o rest all) next_is s),
+)

@@ -1,7 +1,7 @@
 -- What `clap` makes of the words of one option.
 use Rattle.std.proofs.Common.{◌≡◌, ℕ, ◌≤◌, Bool, cond, ◌&&◌, true, false, [], ◌∷◌, ◌++◌, length, refl, sym, arith, true≢false, nat_eq, nat_le, ne_eqb}
 use borrow.Author.Tests.{leb-true}
-use Rattle.std.specs.Prelude.{Some, None}
+use Rattle.std.specs.Prelude.{Some, None, codes}
 use Rattle.std.specs.List.{list_all}
 use Rattle.clap.specs.Walk.{Held, Rule, Text, Walk, option, reacted, settled, used, walk_from, walked}
 use Rattle.clap.proofs.WalkLemmas.{both}
@@ -11,9 +11,14 @@ use Rattle.clap.specs.declared.builder.value_parser.ValueParser.TheVariants as v
 use Rattle.command_words.specs.declared.options.Choice.{Choice}
 use Rattle.command_words.specs.declared.options.Choice.TheVariants.{Nodes, Workers, Generate}
 use Rattle.command_words.specs.Value.{value_of, are_digits, is_digit, number_after}
-use Rattle.command_words.specs.Reading.{app, rule_for}
-use Rattle.command_words.specs.Words.{name_of}
+use Rattle.command_words.specs.Reading.{app, flag_rule, rule_for}
+use Rattle.command_words.specs.Words.{name_of, smt_flag}
 use Rattle.command_words.specs.OptionIds.{id_of}
+
+-- `and` with a test that passes
+and_true : (b : Bool) → (b && true) ≡ b
+and_true true = refl
+and_true false = refl
 
 -- the command with what building adds
 abbrev pub shape : Shape
@@ -23,12 +28,25 @@ shape = (built app).top
 abbrev pub built_rule : Choice → Rule
 built_rule choice = record (rule_for choice) { range = Some (record { start_inclusive = 1; end_inclusive = 1 }); parser = Some vp.String }
 
--- ---- the words of an option
+-- the flag with what building adds: it takes no value, and is false where it does not stand
+abbrev pub built_flag : Rule
+built_flag = record flag_rule {
+  range = Some (record { start_inclusive = 0; end_inclusive = 0 });
+  parser = Some vp.Bool;
+  defaults = codes "false" ∷ [];
+  missing = codes "true" ∷ [];
+}
 
--- `and` with a test that passes
-and_true : (b : Bool) → (b && true) ≡ b
-and_true true = refl
-and_true false = refl
+-- ---- the word of the flag
+
+pub flag_walks : (h : Held) → walked shape.rules [] (walk_from h) smt_flag ≡ walk_from (reacted shape.rules built_flag [] h)
+unfolding walked
+flag_walks h = refl
+
+pub flag_passes : (h : Held) → turn_passes shape [] (walk_from h) smt_flag ≡ react_passes shape.rules false built_flag [] h
+flag_passes h = and_true _
+
+-- ---- the words of an option
 
 -- a word with a value after = uses the option at once
 pub joined_walks : (choice : Choice) (text : Text) (h : Held)

@@ -1,22 +1,23 @@
 -- `clap` takes valid words, and finds the values that they give.
 use Rattle.std.proofs.Common.{◌≡◌, ◌∙◌, ℕ, Bool, true, false, ◌&&◌, append-nil, List, [], ◌∷◌, ◌++◌, map, refl, sym, ap, ap₂, subst, ⊎_elim, is_some}
-use Rattle.std.specs.Prelude.{None, fold, option_and_then, string_bytes}
+use Rattle.std.specs.Prelude.{None, Some, fold, option_and_then, string_bytes}
 use Rattle.std.specs.List.{list_all}
 use Rattle.std.specs.declared.alloc.Global.{Global}
 use Rattle.std.specs.declared.string.String.{String}
-use Rattle.clap.specs.Walk.{Held, Row, Text, Walk, finished, first_of, nothing_held, reacted, settled, walk_from, walked}
+use Rattle.clap.specs.Walk.{Held, Row, Text, Walk, finished, first_of, nothing_held, one_of, reacted, settled, walk_from, walked}
 use Rattle.clap.specs.Simple.{built, entered}
 use Rattle.clap.specs.Takes.{default_passes, entered_passes, is_valid, react_passes, settle_passes, turn_passes, walk_passes}
 use Rattle.clap.specs.Words.{matches_of, takes}
 use Rattle.command_words.specs.declared.options.Choice.{Choice}
+use Rattle.command_words.specs.declared.options.Language.TheVariants.{Redlog}
 use Rattle.command_words.specs.declared.options.Options.{Options}
 use Rattle.command_words.specs.Value.{value_of}
-use Rattle.command_words.specs.Words.{name_of, greatest_of, given, with_value, Begins, SpellsAfter, over, option, Spells}
-use Rattle.command_words.specs.OptionIds.{id_of}
-use Rattle.command_words.specs.Reading.{app}
+use Rattle.command_words.specs.Words.{name_of, greatest_of, given, with_value, smt_flag, with_smt, Begins, BeginsFlag, SpellsAfter, over, option, flag, Spells}
+use Rattle.command_words.specs.OptionIds.{id_of, smt_id}
+use Rattle.command_words.specs.Reading.{app, flag_text}
 use Rattle.command_words.proofs.Spelling.{InNext, InTail, stands}
-use Rattle.command_words.proofs.Steps.{shape, built_rule, joined_walks, joined_passes, alone_walks, alone_passes, value_walks, value_passes, filled_held, filled_settles, filled_rows}
-use Rattle.command_words.proofs.Rows.{Rowed, no_row, Says, used_rowed, use_taken, rows_stay}
+use Rattle.command_words.proofs.Steps.{shape, built_rule, built_flag, flag_walks, flag_passes, joined_walks, joined_passes, alone_walks, alone_passes, value_walks, value_passes, filled_held, filled_settles, filled_rows}
+use Rattle.command_words.proofs.Rows.{Rowed, no_row, Says, used_rowed, use_taken, flag_rowed, flag_taken, only_flag, first_stays, flag_found}
 
 -- between two options, what is held is what the options so far give
 pub record Holds (before : Options) (h : Held) : Type 0 where
@@ -72,6 +73,30 @@ module _ {before : Options} {h : Held} (holds : Holds before h) (choice : Choice
             (ap (λ (w : Walk). walk_passes shape [] w words) both_words ∙ r.passes));
       }
 
+module _ {before : Options} {h : Held} (holds : Holds before h) (free : before.language ≡ Redlog) where
+  -- after the flag
+  flag_holds : Holds (with_smt before) (reacted shape.rules built_flag [] h)
+  flag_holds = record { settles = refl; rowed = flag_rowed holds.rowed free }
+
+  -- the flag, and the words that follow
+  flag_reads : (all : Options) (words : List Text) → Reads all words (reacted shape.rules built_flag [] h) → Reads all (smt_flag ∷ words) h
+  unfolding walk_passes
+  flag_reads all words r = record {
+    end = r.end;
+    holds = r.holds;
+    ends = ap (λ (w : Walk). fold (walked shape.rules []) w words) (flag_walks h) ∙ r.ends;
+    passes = ap₂ ◌&&◌ (flag_passes h ∙ ap₂ ◌&&◌ holds.settles (flag_taken holds.rowed free)) (ap (λ (w : Walk). walk_passes shape [] w words) (flag_walks h) ∙ r.passes);
+  }
+
+  -- words that begin with the flag, where the words after it are read
+  flagged_reads : (all : Options) (words rest : List (String Global)) → BeginsFlag words rest
+      → ((k : Held) → Holds (with_smt before) k → Reads all (map string_bytes rest) k) → Reads all (map string_bytes words) h
+  flagged_reads all words rest begins more =
+      let texts : map string_bytes words ≡ smt_flag ∷ map string_bytes rest =
+      ap (map string_bytes) begins.words_are ∙ ap (λ (t : Text). t ∷ map string_bytes rest) begins.word_is in
+      subst (λ (ts : List Text). Reads all ts h) (sym texts)
+      (flag_reads all (map string_bytes rest) (more (reacted shape.rules built_flag [] h) flag_holds))
+
 module _ {before all : Options} {h : Held} (holds : Holds before h) (choice : Choice) (n : ℕ) (free : given choice before ≡ None) (words rest : List (String Global))
     (begins : Begins choice words n rest) (more : (k : Held) → Holds (with_value choice n before) k → Reads all (map string_bytes rest) k) where
   -- an option with its value in the next word, where the words after it are read
@@ -105,6 +130,8 @@ unfolding walk_passes
 reads_on over h holds = record { end = h; holds = holds; ends = refl; passes = refl }
 reads_on (option {words = words} {rest = rest} {n = n} choice free begins more) h holds =
     option_reads holds choice n free words rest begins (λ k held. reads_on more k held)
+reads_on (flag {all = all} {words = words} {rest = rest} free begins more) h holds =
+    flagged_reads holds free all words rest begins (λ k held. reads_on more k held)
 
 -- ---- the whole parse
 
@@ -118,7 +145,7 @@ ends_well w passes =
 module _ (words : List (String Global)) (all : Options) (spells : Spells words all) where
   -- all the words are read
   reads : Reads all (map string_bytes words) nothing_held
-  reads = reads_on spells nothing_held (record { settles = refl; rowed = no_row })
+  reads = reads_on spells.gives nothing_held (record { settles = refl; rowed = no_row })
 
   -- `clap` takes the words
   pub words_taken : takes app (map string_bytes words) ≡ true
@@ -129,5 +156,13 @@ module _ (words : List (String Global)) (all : Options) (spells : Spells words a
   pub values_found : (choice : Choice) → option_and_then (value_of (greatest_of choice)) (first_of (id_of choice) (matches_of app (map string_bytes words))) ≡ given choice all
   values_found choice =
       ap (λ (w : Walk). option_and_then (value_of (greatest_of choice)) (first_of (id_of choice) (finished shape.rules w.held))) reads.ends
-      ∙ ap (λ (rs : List Row). option_and_then (value_of (greatest_of choice)) (first_of (id_of choice) rs)) (rows_stay (settled shape.rules reads.end).rows)
+      ∙ ap (λ (rs : List Row). option_and_then (value_of (greatest_of choice)) (first_of (id_of choice) rs)) (only_flag (settled shape.rules reads.end).rows)
+      ∙ ap (option_and_then (value_of (greatest_of choice))) (first_stays choice (settled shape.rules reads.end).rows)
       ∙ reads.holds.rowed.gives choice
+
+  -- and the language
+  pub language_found : one_of smt_id (matches_of app (map string_bytes words)) ≡ Some (flag_text all.language)
+  language_found =
+      ap (λ (w : Walk). one_of smt_id (finished shape.rules w.held)) reads.ends
+      ∙ ap (one_of smt_id) (only_flag (settled shape.rules reads.end).rows)
+      ∙ flag_found reads.holds.rowed

@@ -13,6 +13,10 @@ id_of Nodes = codes "nodes"
 id_of Workers = codes "workers"
 id_of Generate = codes "generate"
 
+-- the name of the flag without its hyphens
+abbrev pub smt_id : List ℕ
+smt_id = codes "smt"
+
 -- each value is from 1 to the greatest of its option
 abbrev pub AreInRange : Options → Type 0
 AreInRange options = (choice : Choice) → IfSome (given choice options) (λ n. (1 ≤ n) × (n ≤ greatest_of choice))

@@ -4,6 +4,7 @@ use Rattle.std.specs.declared.alloc.Global.{Global}
 use Rattle.std.specs.declared.string.String.{String}
 use Rattle.command_words.specs.declared.options.Choice.{Choice}
 use Rattle.command_words.specs.declared.options.Choice.TheVariants.{Nodes, Workers, Generate}
+use Rattle.command_words.specs.declared.options.Language.TheVariants.{Redlog, SmtLib}
 use Rattle.command_words.specs.declared.options.Options.{Options}
 use Rattle.command_words.specs.Value.{value_of}
 
@@ -31,9 +32,17 @@ with_value Nodes n options = record options { nodes = Some n }
 with_value Workers n options = record options { workers = Some n }
 with_value Generate n options = record options { generate = Some n }
 
--- no option is given a value
+-- no option is given a value, and the script is one of Redlog
 abbrev pub no_options : Options
-no_options = record { nodes = None; workers = None; generate = None }
+no_options = record { nodes = None; workers = None; generate = None; language = Redlog }
+
+-- the flag that says that the script is in SMT-LIB
+abbrev pub smt_flag : List ℕ
+smt_flag = codes "--smt"
+
+-- these options, and a script in SMT-LIB
+abbrev pub with_smt : Options → Options
+with_smt options = record options { language = SmtLib }
 
 -- What stands after the option's name in its word, and the words that follow, give this value, and leave these words: the value is the
 -- next word where nothing stands there, or stands there itself after =.
@@ -50,12 +59,22 @@ pub record Begins (choice : Choice) (words : List (String Global)) (n : ℕ) (re
   pub word_is : string_bytes word ≡ name_of choice ++ tail
   pub gives : Gives (greatest_of choice) tail others n rest
 
--- after words that gave some options, the words are options that were not given yet, and all together give these
+-- the words begin with the flag, and these are left
+pub record BeginsFlag (words rest : List (String Global)) : Type 0 where
+  pub word : String Global
+  pub words_are : words ≡ word ∷ rest
+  pub word_is : string_bytes word ≡ smt_flag
+
+-- After words that gave some options, the words are options that were not given yet, and the flag if it was not, and all together give these.
 pub data SpellsAfter : Options → List (String Global) → Options → Type 0 where
   over : {before : Options} → SpellsAfter before [] before
   option : {before all : Options} {words rest : List (String Global)} {n : ℕ} (choice : Choice) → given choice before ≡ None
       → Begins choice words n rest → SpellsAfter (with_value choice n before) rest all → SpellsAfter before words all
+  flag : {before all : Options} {words rest : List (String Global)} → before.language ≡ Redlog
+      → BeginsFlag words rest → SpellsAfter (with_smt before) rest all → SpellsAfter before words all
 
--- the words are of the form of a command line, each option at most once and in any order, and give these options
-abbrev pub Spells : List (String Global) → Options → Type 0
-Spells words options = SpellsAfter no_options words options
+-- the words are of the form of a command line, each option and the flag at most once and in any order, and give these options; with the flag
+-- no script is generated
+pub record Spells (words : List (String Global)) (options : Options) : Type 0 where
+  pub gives : SpellsAfter no_options words options
+  pub one_script : options.language ≡ SmtLib → options.generate ≡ None

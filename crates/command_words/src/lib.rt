@@ -8,6 +8,6 @@ mod value;
 mod words;
 
 pub use laws::words_spell_once;
-pub use options::{Choice, Options};
+pub use options::{Choice, Language, Options};
 pub use reading::options_of;
 pub use words::are_valid;

@@ -13,13 +13,27 @@ pub enum Choice {
 /// The options, in the order of the form.
 pub const CHOICES: [Choice; 3] = [Choice::Nodes, Choice::Workers, Choice::Generate];
 
-/// The values of the options, where they are given.
+/// The language of the script.
+#[derive(Clone, Copy, Debug, PartialEq, Eq)]
+pub enum Language {
+    Redlog,
+    SmtLib,
+}
+
+/// The values of the options, where they are given, and the language of the script.
 #[derive(Clone, Copy, Debug, PartialEq, Eq)]
 pub struct Options {
     pub nodes: Option<u32>,
     pub workers: Option<u32>,
     pub generate: Option<u32>,
+    pub language: Language,
 }
+
+/// The word of the flag that says that the script is in SMT-LIB.
+pub const SMT_FLAG: &str = "--smt";
+
+/// The name of the flag, without the hyphens before it.
+pub const SMT_ID: &str = "smt";
 
 impl Choice {
     /// The word that begins the option.

@@ -1,13 +1,14 @@
-ghost use Rattle.std.specs.Prelude.{◌≡◌, false, IfErr, IfOk, option_and_then};
-ghost use Rattle.clap.specs.Words.{app_of, first_value, found_of, kind_of, rule_of};
+ghost use Rattle.std.specs.Prelude.{◌≡◌, false, IfErr, IfOk, Some, option_and_then};
+ghost use Rattle.clap.specs.Words.{app_of, first_value, found_of, kind_of, one_text, rule_of};
 ghost use Rattle.command_words.specs.declared.options.Choice.{Choice};
+ghost use Rattle.command_words.specs.declared.options.Language.{Language};
 ghost use Rattle.command_words.specs.declared.options.Options.{Options};
-ghost use Rattle.command_words.specs.Reading.{HasValues, app, rule_for};
+ghost use Rattle.command_words.specs.Reading.{HasValues, app, flag_rule, flag_text, rule_for};
 ghost use Rattle.command_words.specs.Value.{value_of};
 ghost use Rattle.command_words.specs.Words.{greatest_of, Spells};
-ghost use Rattle.command_words.specs.OptionIds.{id_of, AreInRange};
+ghost use Rattle.command_words.specs.OptionIds.{id_of, smt_id, AreInRange};
 
-use crate::options::{Choice, Options};
+use crate::options::{Choice, Language, Options, SMT_ID};
 use crate::value::value_of;
 use clap::error::ErrorKind;
 use clap::{Arg, ArgAction, ArgMatches, Command, Error};
@@ -25,6 +26,7 @@ pub fn options_of(alloc: Global, words: &[String]) -> Result<Options, AllocError
             nodes: value_given(&matches, Choice::Nodes),
             workers: value_given(&matches, Choice::Workers),
             generate: value_given(&matches, Choice::Generate),
+            language: language_given(&matches),
         }),
         Err(_) => Err(AllocError),
     }
@@ -40,7 +42,7 @@ fn matches_of<'a>(alloc: Global, words: &'a [String]) -> Result<ArgMatches<'a>, 
     command.try_get_matches_from(words)
 }
 
-/// The command line as `clap` is told of it: the three options, no help and no version.
+/// The command line as `clap` is told of it: the three options and the flag, no help and no version.
 fn command_of<'a>(alloc: Global) -> Result<Command<'a>, AllocError>
     ensures { IfOk result (λ command. app_of command ≡ app) }
 {
@@ -50,7 +52,8 @@ fn command_of<'a>(alloc: Global) -> Result<Command<'a>, AllocError>
         .disable_version_flag(true)
         .arg(arg_of(alloc, Choice::Nodes))?
         .arg(arg_of(alloc, Choice::Workers))?
-        .arg(arg_of(alloc, Choice::Generate))
+        .arg(arg_of(alloc, Choice::Generate))?
+        .arg(flag_arg(alloc))
 }
 
 /// The option as `clap` is told of it, with its value as text.
@@ -61,6 +64,27 @@ fn arg_of(alloc: Global, choice: Choice) -> Arg<'static>
     Arg::new(alloc, choice.id())
         .long(choice.id())
         .action(ArgAction::Set)
+}
+
+/// The flag as `clap` is told of it.
+fn flag_arg(alloc: Global) -> Arg<'static>
+    ensures rule { rule_of result ≡ flag_rule }
+    ensures local { result.global ≡ false }
+{
+    Arg::new(alloc, SMT_ID)
+        .long(SMT_ID)
+        .action(ArgAction::SetTrue)
+}
+
+/// The language that the matches tell.
+fn language_given(matches: &ArgMatches) -> Language
+    ensures { (language : Language) → one_text (found_of matches.now) smt_id ≡ Some (flag_text language) → result ≡ language }
+{
+    if matches.get_flag(SMT_ID) {
+        Language::SmtLib
+    } else {
+        Language::Redlog
+    }
 }
 
 /// The value of the option among the matches.

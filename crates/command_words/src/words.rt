@@ -1,14 +1,15 @@
-ghost use Rattle.std.specs.Prelude.{◌≡◌, ℕ, IsTrue, ◌↔◌, ◌<◌, ◌≤◌, List, [], ◌++◌, length, drop, MatchOption};
+ghost use Rattle.std.specs.Prelude.{◌≡◌, ℕ, true, false, IsTrue, ◌↔◌, ◌<◌, ◌≤◌, List, [], ◌++◌, length, drop, MatchOption};
 ghost use Rattle.std.specs.declared.alloc.Global.{Global};
 ghost use Rattle.std.specs.declared.string.String.{String};
 ghost use Rattle.command_words.specs.declared.options.Choice.{Choice};
+ghost use Rattle.command_words.specs.declared.options.Language.TheVariants as Language;
 ghost use Rattle.command_words.specs.declared.options.Options.{Options};
-ghost use Rattle.command_words.specs.Words.{Gives, Begins, Spells};
+ghost use Rattle.command_words.specs.Words.{no_options, Gives, with_smt, Begins, BeginsFlag, SpellsAfter, Spells};
 
-use crate::options::{CHOICES, Choice, Options};
+use crate::options::{CHOICES, Choice, Language, Options, SMT_FLAG};
 use crate::value::value_of;
 
-/// Whether the words of a command line are of the form `[--nodes n] [--workers n] [--generate n]`: each option at
+/// Whether the words of a command line are of the form `[--nodes n] [--workers n] [--generate n | --smt]`: each option at
 /// most once, in any order, its value in the next word or after `=`. It takes no memory.
 pub fn are_valid(words: &[String]) -> bool
     ensures { IsTrue result ↔ ((options : Options) × Spells words.now options) }
@@ -20,21 +21,82 @@ pub fn are_valid(words: &[String]) -> bool
 fn spelled(words: &[String]) -> Option<Options>
     ensures { MatchOption result (¬ ((options : Options) × Spells words.now options)) (λ options. Spells words.now options) }
 {
+    let options = all_given(words)?;
+    match options.language {
+        Language::SmtLib if options.generate.is_some() => None,
+        _ => Some(options),
+    }
+}
+
+/// The options that the words give, each at most once.
+fn all_given(words: &[String]) -> Option<Options>
+    ensures { MatchOption result ((options : Options) → ¬ SpellsAfter no_options words.now options) (λ options. SpellsAfter no_options words.now options) }
+{
     let mut options = Options {
         nodes: None,
         workers: None,
         generate: None,
+        language: Language::Redlog,
     };
     let mut from = 0;
     'words: while from < words.len() {
-        let first = first_option(&words[from..])?;
-        if options.has(first.choice) {
-            return None;
-        }
-        options = options.with(first.choice, first.value);
-        from += first.words;
+        let next = with_first(options, &words[from..])?;
+        options = next.options;
+        from += next.words;
     }
     Some(options)
+}
+
+/// Some options and the one that comes next, and in how many words this stands.
+#[derive(Clone, Copy)]
+struct Next {
+    options: Options,
+    words: usize,
+}
+
+/// These options and the one, or the flag, that the words begin with, where it was not given yet.
+fn with_first(before: Options, words: &[String]) -> Option<Next>
+    requires { 0 < length words.now }
+    ensures { MatchOption result
+        ((all : Options) → ¬ SpellsAfter before words.now all)
+        (λ next. (0 < next.words) × (next.words ≤ length words.now) × ((all : Options) → SpellsAfter before words.now all ↔ SpellsAfter next.options (drop next.words words.now) all)) }
+{
+    if begins_with_flag(words) {
+        let options = with_flag(before)?;
+        return Some(Next { options, words: 1 });
+    }
+    let first = first_option(words)?;
+    if before.has(first.choice) {
+        return None;
+    }
+    Some(Next {
+        options: before.with(first.choice, first.value),
+        words: first.words,
+    })
+}
+
+/// These options and the flag, where it was not given yet.
+fn with_flag(before: Options) -> Option<Options>
+    ensures { MatchOption result (before.language ≡ Language.SmtLib) (λ options. (before.language ≡ Language.Redlog) × (options ≡ with_smt before)) }
+{
+    match before.language {
+        Language::Redlog => Some(Options {
+            language: Language::SmtLib,
+            ..before
+        }),
+        Language::SmtLib => None,
+    }
+}
+
+/// Whether the words begin with the flag.
+fn begins_with_flag(words: &[String]) -> bool
+    ensures flag { result ≡ true → BeginsFlag words.now (drop 1 words.now) }
+    ensures none { result ≡ false → (rest : List (String Global)) → ¬ BeginsFlag words.now rest }
+{
+    match words.split_first() {
+        Some((word, _)) => word.as_str() == SMT_FLAG,
+        None => false,
+    }
 }
 
 /// The first option of some words: its value, and in how many words it stands.

@@ -1,2 +1,4 @@
 pub mod Streams
 pub mod Memory
+pub mod Ends
+pub mod Stops

@@ -6,15 +6,19 @@
 mod copy;
 mod memory;
 mod steady;
+mod stop;
 mod streams;
+mod write;
 
 ghost use Rattle.std.specs.Prelude.{ℕ, ◌≡◌, ◌≤◌, ◌<◌, ◌↔◌, List, Option, length, take, IfOk, OnOk, OnErr};
 ghost use Rattle.qe_io.specs.Streams.{Gave, IsAtEnd, Took, Rose};
 
 pub use memory::{MemorySink, MemorySource, SinkError};
 pub use steady::{SteadySink, SteadySource};
+pub use stop::{AnswerStop, StreamStop};
 pub use streams::{StdSink, StdSource};
 use thiserror::Error;
+pub use write::write_all;
 
 /// A read failed.
 #[derive(Clone, Copy, Debug, PartialEq, Eq, Error)]

@@ -13,19 +13,20 @@ use Rattle.script_splitter.proofs.Following.{still_open}
 use Rattle.session_meaning.specs.State.{first_state}
 use Rattle.session_commands.specs.Seen.{state_in}
 use Rattle.redlog_run.specs.declared.answer.Answering.{Answering}
-use Rattle.redlog_run.specs.declared.stop.AnswerStop.{AnswerStop}
-use Rattle.redlog_run.specs.declared.stop.AnswerStop.TheVariants as answer
-use Rattle.redlog_run.specs.declared.stop.StreamStop.TheVariants as streams
+use Rattle.qe_io.specs.declared.stop.AnswerStop.{AnswerStop}
+use Rattle.qe_io.specs.declared.stop.AnswerStop.TheVariants as answer
+use Rattle.qe_io.specs.declared.stop.StreamStop.TheVariants as streams
 use Rattle.redlog_run.specs.declared.status.Status.{Status}
 use Rattle.redlog_run.specs.declared.status.Status.TheVariants as status
 use Rattle.redlog_run.specs.Claim.{Claim}
 use Rattle.redlog_run.specs.ClaimUnder.{ClaimUnder}
-use Rattle.redlog_run.specs.Ends.{Ends, ends, HasFailed, TookFront}
+use Rattle.qe_io.specs.Ends.{Ends, ends, HasFailed, TookFront}
 use Rattle.redlog_run.specs.Outcome.{script_limit, read_size, node_limit, Given, IsWhole, Answered, OutcomeOfSource, outcome_of, completes_of, Faults}
 use Rattle.redlog_run.specs.Run.{RunOf, begin, RunsSo, RunsAll, IsEndedWith}
-use Rattle.redlog_run.specs.Script.{IsWritten, Part, EndsIn, AnswersBytes, AnswersLast, AnswerCause, stream_status}
+use Rattle.qe_io.specs.Stops.{AnswerCause}
+use Rattle.redlog_run.specs.Script.{IsWritten, Part, EndsIn, AnswersBytes, AnswersLast, stream_status}
 use Rattle.redlog_run.specs.Steps.{ClaimOfSource, ClaimOfGenerated}
-use Rattle.redlog_run.proofs.Joined.{gave_none, took_none, gave_joined, still_at_end}
+use Rattle.qe_io.proofs.Joined.{gave_none, took_none, gave_joined, still_at_end}
 use Rattle.redlog_run.proofs.Reaching.{too_long}
 use Rattle.redlog_run.proofs.Unrefused.{unrefused_scripts}
 

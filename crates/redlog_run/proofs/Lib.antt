@@ -1,4 +1,3 @@
-pub mod Joined
 pub mod Claims
 pub mod Replies
 pub mod Unrefused

@@ -17,9 +17,9 @@ use Rattle.redlog_run.specs.Lines.{refusal_line}
 use Rattle.redlog_run.specs.Run.{AnswersPiece, finished, RunOf, RunTo, begin, RunsTo, RunsSo}
 use Rattle.redlog_run.specs.Adding.{Adds}
 use Rattle.qe_io.specs.Streams.{Took}
-use Rattle.redlog_run.specs.Ends.{TookFront}
+use Rattle.qe_io.specs.Ends.{TookFront}
 use Rattle.redlog_run.specs.Script.{Stands, IsEnded, StandsOrEnds, IsWritten, HoldsOrWrote, Part, EndsIn, RunsOut, FailsIn}
-use Rattle.redlog_run.proofs.Joined.{rest_whole, took_joined, front_after}
+use Rattle.qe_io.proofs.Joined.{rest_whole, took_joined, front_after}
 use Rattle.redlog_run.proofs.Replies.{adds_refusal}
 use Rattle.redlog_run.proofs.Reaching.{runs_longer, runs_on, run_stops, run_whole, run_over}
 

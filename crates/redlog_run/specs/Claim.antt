@@ -6,7 +6,7 @@ use Rattle.command_words.specs.declared.options.Options.{Options}
 use Rattle.command_words.specs.Words.{Spells}
 use Rattle.redlog_run.specs.declared.status.Status.{Status}
 use Rattle.redlog_run.specs.declared.status.Status.TheVariants as status
-use Rattle.redlog_run.specs.Ends.{Ends, HasFailed}
+use Rattle.qe_io.specs.Ends.{Ends, HasFailed}
 use Rattle.redlog_run.specs.Outcome.{Faults, Outcome, Completes}
 
 -- The program was called with these words; its ends were as before, and are as after; and it ends with this status.

@@ -3,7 +3,7 @@ use Rattle.std.specs.Prelude.{◌≡◌}
 use Rattle.command_words.specs.declared.options.Options.{Options}
 use Rattle.redlog_run.specs.declared.status.Status.{Status}
 use Rattle.redlog_run.specs.declared.status.Status.TheVariants as status
-use Rattle.redlog_run.specs.Ends.{Ends, HasFailed}
+use Rattle.qe_io.specs.Ends.{Ends, HasFailed}
 use Rattle.redlog_run.specs.Outcome.{Faults, Outcome, Completes}
 
 -- what is said once the words have given these options

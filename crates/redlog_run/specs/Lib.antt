@@ -1,6 +1,5 @@
 pub mod Claim
 pub mod ClaimUnder
-pub mod Ends
 pub mod Outcome
 pub mod Workers
 pub mod Run

@@ -5,7 +5,7 @@ use Rattle.qe_io.specs.Streams.{Gave, IsAtEnd, Took, Rose}
 use Rattle.generated_scripts.specs.Generated.{generated, tally}
 use Rattle.redlog_run.specs.declared.status.Status.{Status}
 use Rattle.redlog_run.specs.declared.status.Status.TheVariants as status
-use Rattle.redlog_run.specs.Ends.{Ends, TookFront}
+use Rattle.qe_io.specs.Ends.{Ends, TookFront}
 use Rattle.redlog_run.specs.Run.{RunOf, RunsSo, RunsAll, IsEndedWith, IsTooLong}
 use Rattle.redlog_run.specs.Unrefused.{IsUnrefused}
 

@@ -10,7 +10,7 @@ use Rattle.redlog_run.specs.declared.process.WordsError.TheVariants as words
 use Rattle.redlog_run.specs.declared.status.Status.{Status}
 use Rattle.redlog_run.specs.declared.status.Status.TheVariants as status
 use Rattle.redlog_run.specs.Claim.{Claim}
-use Rattle.redlog_run.specs.Ends.{Ends}
+use Rattle.qe_io.specs.Ends.{Ends}
 use Rattle.redlog_run.specs.Numbers.{number_of}
 
 -- the code is the number of a status of which this is true

@@ -7,13 +7,13 @@ use Rattle.redlog_run.specs.declared.answer.Answering.{Answering}
 use Rattle.redlog_run.specs.declared.answer.Answers.{Answers}
 use Rattle.redlog_run.specs.declared.write.Pace.{Pace}
 use Rattle.redlog_run.specs.declared.write.Pace.TheVariants as pace
-use Rattle.redlog_run.specs.declared.stop.StreamStop.{StreamStop}
-use Rattle.redlog_run.specs.declared.stop.StreamStop.TheVariants as stop
-use Rattle.redlog_run.specs.declared.stop.AnswerStop.{AnswerStop}
-use Rattle.redlog_run.specs.declared.stop.AnswerStop.TheVariants as answer
+use Rattle.qe_io.specs.declared.stop.StreamStop.{StreamStop}
+use Rattle.qe_io.specs.declared.stop.StreamStop.TheVariants as stop
+use Rattle.qe_io.specs.declared.stop.AnswerStop.{AnswerStop}
+use Rattle.qe_io.specs.declared.stop.AnswerStop.TheVariants as answer
 use Rattle.redlog_run.specs.declared.status.Status.{Status}
 use Rattle.redlog_run.specs.declared.status.Status.TheVariants as status
-use Rattle.redlog_run.specs.Ends.{TookFront}
+use Rattle.qe_io.specs.Ends.{TookFront}
 use Rattle.redlog_run.specs.Run.{RunOf, RunsTo, RunsSo, IsEndedWith}
 
 -- The splitter was fed these bytes, and these are the lines of the pieces that it handed out, which leave the state of the session.
@@ -88,11 +88,6 @@ abbrev pub AnswersLast : ℕ → List ℕ → Option (List ℕ) → Option (List
 AnswersLast limit script first now (Ok refusal) = (lines : List ℕ) × RunOf limit script lines refusal × Took first now lines
 AnswersLast limit script first now (Err answer.Memory) = (lines : List ℕ) × RunsSo limit script lines × Took first now lines
 AnswersLast limit script first now (Err answer.Write) = (lines : List ℕ) × ((refusal : Bool) × RunOf limit script lines refusal) × TookFront first now lines
-
--- why answers stop, by the count of faults of the sink, before and after
-abbrev pub AnswerCause : ℕ → ℕ → AnswerStop → Type 0
-AnswerCause faults later answer.Write = Rose faults later
-AnswerCause faults later answer.Memory = later ≡ faults
 
 -- the status with which a script of the source ends
 abbrev pub stop_status : StreamStop → Status

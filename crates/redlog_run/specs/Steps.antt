@@ -4,7 +4,7 @@ use Rattle.qe_io.specs.Streams.{Took, Rose}
 use Rattle.generated_scripts.specs.Generated.{generated, tally}
 use Rattle.redlog_run.specs.declared.status.Status.{Status}
 use Rattle.redlog_run.specs.declared.status.Status.TheVariants as status
-use Rattle.redlog_run.specs.Ends.{Ends, HasFailed, TookFront}
+use Rattle.qe_io.specs.Ends.{Ends, HasFailed, TookFront}
 use Rattle.redlog_run.specs.Outcome.{script_limit, OutcomeOfSource, Faults, IsDoneOrMemory}
 use Rattle.redlog_run.specs.Run.{RunOf}
 use Rattle.redlog_run.specs.Unrefused.{IsUnrefused}

@@ -6,7 +6,6 @@ mod laws;
 mod process;
 mod program;
 mod status;
-mod stop;
 mod stream;
 mod team;
 mod write;

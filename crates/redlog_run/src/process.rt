@@ -1,7 +1,7 @@
 ghost use Rattle.std.specs.Prelude.{◌≡◌, ◌≢◌};
 ghost use Rattle.std.specs.IoError.{error_kind};
 ghost use Rattle.std.specs.Process.{exit_status};
-ghost use Rattle.redlog_run.specs.Ends.{ends};
+ghost use Rattle.qe_io.specs.Ends.{ends};
 ghost use Rattle.redlog_run.specs.Numbers.{number_of};
 ghost use Rattle.redlog_run.specs.Process.{EndsWith, EndsProcess, Finishes};
 

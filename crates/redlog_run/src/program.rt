@@ -2,7 +2,7 @@ ghost use Rattle.std.specs.Prelude.{◌≡◌, ◌≤◌, IfOk};
 ghost use Rattle.command_words.specs.OptionIds.{AreInRange};
 ghost use Rattle.redlog_run.specs.Claim.{Claim};
 ghost use Rattle.redlog_run.specs.ClaimUnder.{ClaimUnder};
-ghost use Rattle.redlog_run.specs.Ends.{ends};
+ghost use Rattle.qe_io.specs.Ends.{ends};
 ghost use Rattle.redlog_run.specs.Outcome.{node_limit};
 ghost use Rattle.redlog_run.specs.Workers.{worker_limit};
 ghost use Rattle.redlog_run.specs.Steps.{ClaimOfGenerated, IsTally};

@@ -1,11 +1,11 @@
 ghost use Rattle.std.specs.Prelude.{◌≡◌, [], ◌∷◌, OnOk, OnErr};
 ghost use Rattle.qe_io.specs.Streams.{Took, Rose};
-ghost use Rattle.redlog_run.specs.Ends.{TookFront};
+ghost use Rattle.qe_io.specs.Ends.{TookFront};
 ghost use Rattle.redlog_run.specs.Script.{Written, HoldsOrWrote, pace_of};
 
 use crate::answer::Answers;
 use crate::status::Status;
-use qe_io::{Sink, WriteFailed};
+use qe_io::{Sink, WriteFailed, write_all};
 
 /// Writes the text of an answer. The status is Done, or Refused where some line of the answer is a refusal, or WriteFault.
 pub fn write_answer<K: Sink>(sink: &mut K, text: &[u8], refused: bool) -> Status
@@ -82,18 +82,4 @@ pub fn write_due<K: Sink>(
         Pace::Together if answers.lines.len() < MOST_HELD => Ok(()),
         _ => write_lines(sink, answers),
     }
-}
-
-/// Writes all the bytes. After an `Err` some bytes in front were written.
-pub fn write_all<K: Sink>(sink: &mut K, bytes: &[u8]) -> Result<(), WriteFailed>
-    ensures wrote { OnOk result (Took (K.wrote sink.old) (K.wrote sink.new) bytes.now) }
-    ensures no_fault { OnOk result (K.faults sink.new ≡ K.faults sink.old) }
-    ensures fault { OnErr result (Rose (K.faults sink.old) (K.faults sink.new)) }
-    ensures front { OnErr result (TookFront (K.wrote sink.old) (K.wrote sink.new) bytes.now) }
-{
-    let mut written = 0;
-    while written < bytes.len() {
-        written += sink.write(&bytes[written..])?;
-    }
-    Ok(())
 }

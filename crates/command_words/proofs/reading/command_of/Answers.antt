@@ -33,4 +33,5 @@ returns c =
     ∙ ap versionless (ap helpless (unnamed_is c.new.result c.no_binary_name.result c.no_binary_name.ensures ∙ ap unnamed c.new.ensures.app)) in
     let one = c.in_ok-arg.ensures.shape c.arg_of.ensures.local ∙ ap₂ with_rule set c.arg_of.ensures.rule in
     let two = c.in_ok-arg-2.ensures.shape c.arg_of-2.ensures.local ∙ ap₂ with_rule one c.arg_of-2.ensures.rule in
-    IfOk-weaker c.arg-3.result _ _ (λ command adds. adds.shape c.arg_of-3.ensures.local ∙ ap₂ with_rule two c.arg_of-3.ensures.rule) c.arg-3.ensures
+    let three = c.in_ok-arg-3.ensures.shape c.arg_of-3.ensures.local ∙ ap₂ with_rule two c.arg_of-3.ensures.rule in
+    IfOk-weaker c.arg-4.result _ _ (λ command adds. adds.shape c.flag_arg.ensures.local ∙ ap₂ with_rule three c.flag_arg.ensures.rule) c.arg-4.ensures

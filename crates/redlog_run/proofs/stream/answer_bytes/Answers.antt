@@ -1,6 +1,6 @@
 use Rattle.std.proofs.Common.{rules, ◌≡◌, Err, sym, ap, ◌∙◌, subst}
 use Rattle.std.proofs.lemmas.Result.{err_from_is_err_and}
-use Rattle.redlog_run.specs.declared.stop.AnswerStop.TheVariants as answer
+use Rattle.qe_io.specs.declared.stop.AnswerStop.TheVariants as answer
 use Rattle.redlog_run.specs.Script.{AnswersBytes}
 use Rattle.redlog_run.proofs.Standing.{held_first, held_last, runs_out, fails_in, fails_last, ends_written, goes_on_held}
 use Rattle.redlog_run.proofs.stream.answer_bytes.Goals as goal

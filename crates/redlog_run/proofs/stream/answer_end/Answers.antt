@@ -1,10 +1,10 @@
 use Rattle.std.proofs.Common.{rules, ◌≡◌, ℕ, List, ◌++◌, Err, sym, ap, ◌∙◌, subst}
 use Rattle.std.proofs.lemmas.Result.{err_from_is_err_and}
 use Rattle.qe_io.specs.Streams.{Took}
-use Rattle.redlog_run.specs.Ends.{TookFront}
-use Rattle.redlog_run.specs.declared.stop.AnswerStop.TheVariants as answer
+use Rattle.qe_io.specs.Ends.{TookFront}
+use Rattle.qe_io.specs.declared.stop.AnswerStop.TheVariants as answer
 use Rattle.redlog_run.specs.Script.{AnswersLast}
-use Rattle.redlog_run.proofs.Joined.{took_joined, front_after}
+use Rattle.qe_io.proofs.Joined.{took_joined, front_after}
 use Rattle.redlog_run.proofs.Standing.{none_held, runs_so}
 use Rattle.redlog_run.proofs.stream.answer_end.Goals as goal
 

@@ -1,9 +1,10 @@
 use Rattle.std.proofs.Common.{rules, ◌≡◌, ◌+◌, ◌≤◌, Ok, Err, false, length, take, drop, sym, ap, ◌∙◌, subst, arith}
 use Rattle.std.proofs.lemmas.Result.{err_from_is_err_and}
 use Rattle.qe_io.specs.Streams.{Gave, IsAtEnd, Rose}
-use Rattle.redlog_run.specs.declared.stop.StreamStop.TheVariants as streams
-use Rattle.redlog_run.specs.Ends.{ends}
-use Rattle.redlog_run.specs.Script.{AnswersBytes, AnswerCause, stream_status}
+use Rattle.qe_io.specs.declared.stop.StreamStop.TheVariants as streams
+use Rattle.qe_io.specs.Ends.{ends}
+use Rattle.qe_io.specs.Stops.{AnswerCause}
+use Rattle.redlog_run.specs.Script.{AnswersBytes, stream_status}
 use Rattle.redlog_run.specs.Steps.{ClaimOfSource}
 use Rattle.redlog_run.proofs.Claims.{Reading, IsFew, length_few, gave_parts, gave_end, within_few, one_read_few, reading_more, full_few, some_ahead, unread_claim, whole_claim, last_claim, ended_claim, stopped_claim, past_claim}
 use Rattle.redlog_run.proofs.stream.answer_reads.Goals as goal

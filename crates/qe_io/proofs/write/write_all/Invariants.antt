@@ -1,6 +1,6 @@
 use Rattle.std.proofs.Common.{◌≡◌, ◌≤◌, ◌-◌, length, take}
 use Rattle.qe_io.specs.Streams.{Took}
-use Rattle.redlog_run.proofs.write.write_all.Given as goal
+use Rattle.qe_io.proofs.write.write_all.Given as goal
 
 -- the sink took the bytes in front, and no write failed
 abbrev pub invariant-loop-written : goal.invariant-loop-written

@@ -1,8 +1,8 @@
 ghost use Rattle.std.specs.Prelude.{◌≡◌};
-ghost use Rattle.redlog_run.specs.declared.stop.AnswerStop.TheVariants.{Memory, Write};
-ghost use Rattle.redlog_run.specs.declared.stop.StreamStop.TheVariants.{Answer, Read};
+ghost use Rattle.qe_io.specs.declared.stop.AnswerStop.TheVariants.{Memory, Write};
+ghost use Rattle.qe_io.specs.declared.stop.StreamStop.TheVariants.{Answer, Read};
 
-use qe_io::{ReadFailed, WriteFailed};
+use crate::{ReadFailed, WriteFailed};
 use std::alloc::AllocError;
 use thiserror::Error;
 

@@ -1,6 +1,6 @@
 use Rattle.std.proofs.Common.{rules}
-use Rattle.redlog_run.proofs.Joined.{taken_more, front_taken}
-use Rattle.redlog_run.proofs.write.write_all.Goals as goal
+use Rattle.qe_io.proofs.Joined.{taken_more, front_taken}
+use Rattle.qe_io.proofs.write.write_all.Goals as goal
 
 pub returns-in_err-written-clause-front : goal.returns-in_err-written-clause-front
 returns-in_err-written-clause-front g c = search (rules, front_taken)
