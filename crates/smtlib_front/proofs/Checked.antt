@@ -13,7 +13,7 @@ use Rattle.elimination_reference.specs.Reference.{reference}
 use Rattle.sample_reference.specs.Sample.{reference_sample}
 use Rattle.sample_reference.specs.Values.{origin}
 use Rattle.sentence_theory.specs.Leading.{under_names}
-use Rattle.sentence_answers.specs.Verdicts.{Decides}
+use Rattle.sentence_answers.specs.Decided.{Decides}
 use Rattle.sentence_answers.specs.declared.verdict.Verdict.{Verdict}
 use Rattle.sentence_answers.specs.declared.verdict.Verdict.TheVariants as verdict
 use Rattle.smt_runs.specs.Checks.{Checks, sat, sat_alone, unsat, unknown}

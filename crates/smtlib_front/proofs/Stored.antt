@@ -13,7 +13,7 @@ use Rattle.smt_meaning.specs.Levels.{levels, AreLevelsBelow}
 use Rattle.smt_runs.specs.State.{State}
 use Rattle.smt_sentences.specs.Resolvable.{IsResolvable}
 use Rattle.smt_sentences.specs.Resolved.{numbered, sentence_levels}
-use Rattle.smt_sentences.proofs.Asserted.{more_names}
+use Rattle.smt_sentences.proofs.Resolvable.{more_names}
 use Rattle.smtlib_front.specs.Represents.{IsStored, AreStored}
 
 module _ (c : Context) (n : ℕ) (nodes : List (Shape FormulaId)) where
