@@ -1,6 +1,7 @@
 -- What a verdict on the sentence of a state says of the state.
 use Rattle.std.proofs.Common.{◌≡◌, ◌⊎◌, inr, ℕ, zero, suc, List, [], ◌∷◌, map, length, refl, sym, ap, ◌∙◌, subst}
 use Rattle.std.specs.List.{AllByRecursion}
+use Rattle.std.proofs.lemmas.List.{length-map}
 use Rattle.exact_numbers.specs.Frac.{Frac}
 use Rattle.exact_numbers.specs.Fraction.{frac_of}
 use Rattle.exact_numbers.specs.Limit.{InLimit}
@@ -20,7 +21,8 @@ use Rattle.smt_runs.specs.Checks.{Checks, sat, sat_alone, unsat, unknown}
 use Rattle.smt_runs.specs.Sentence.{resolved_sentence, Holds}
 use Rattle.smt_runs.specs.State.{State}
 use Rattle.smt_sentences.specs.Resolved.{asserted_tree, IsSentenceMade, IsSentenceMeant}
-use Rattle.smtlib_front.specs.Represents.{kept_of, HasValueForEach}
+use Rattle.smtlib_front.specs.Represents.{kept_of}
+use Rattle.smtlib_front.specs.Seen.{HasValueForEach}
 use Rattle.smtlib_front.specs.Words.{word_of_verdict, kept_by}
 
 -- fractions of the program are within the limit
@@ -45,8 +47,8 @@ module _ (c : Context) (s : State) (limit : ℕ) (made : IsSentenceMade c s) (me
   verdict_checks verdict.Unknown d = unknown (d.0, ap (reference c limit) made.tree ∙ d.1)
 
 -- and there is a value for each declared name
-pub verdict_counted : (c : Context) (limit count : ℕ) (f : Tree) (v : Verdict) → Decides c limit count f v → HasValueForEach count (kept_of (kept_by v))
+pub verdict_counted : (c : Context) (limit count : ℕ) (f : Tree) (v : Verdict) → Decides c limit count f v → HasValueForEach count (kept_by v)
 verdict_counted c limit count f verdict.False d = tt
-verdict_counted c limit count f (verdict.True vs) d = d.1.one_each
+verdict_counted c limit count f (verdict.True vs) d = sym (length-map vs.items frac_of) ∙ d.1.one_each
 verdict_counted c limit count f verdict.TrueAlone d = tt
 verdict_counted c limit count f verdict.Unknown d = tt

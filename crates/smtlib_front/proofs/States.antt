@@ -14,7 +14,7 @@ use Rattle.formula_store.specs.Nodes.{tree, IsId}
 use Rattle.smt_runs.specs.State.{State}
 use Rattle.smt_runs.specs.State as state
 use Rattle.smtlib_front.specs.Seen.{Seen}
-use Rattle.smtlib_front.specs.Represents.{IsStored, AreStored, AreStoredUnder, HasValueForEach, kept_of, Represents}
+use Rattle.smtlib_front.specs.Represents.{IsStored, AreStored, AreStoredUnder, kept_of, Represents}
 use Rattle.smtlib_front.specs.declared.kept.Kept.{Kept}
 use Rattle.smtlib_front.specs.declared.kept.Kept.TheVariants as kept
 use Rattle.smtlib_front.proofs.Stored.{stored_ids, one_more_stored, stored_under_more, all_stay, stored_again}
@@ -26,10 +26,6 @@ none_some e = absurd (cc)
 pub nothing_stored : (o : Option Context) (c : Context) (n : ℕ) (nodes : List (Shape FormulaId)) (fs : List FormulaTree) (ids : List FormulaId) → o ≡ None → AreStoredUnder o n nodes fs ids → AreStored c n nodes fs ids
 nothing_stored None c n nodes fs ids e h = subst (λ gs. AreStored c n nodes gs ids) (sym h.0) (subst (AreStored c n nodes []) (sym h.1) tt)
 nothing_stored (Some d) c n nodes fs ids e h = absurd (none_some (sym e))
-
--- nothing has a value
-pub none_valued : (n : ℕ) (k : state.Kept) → k ≡ state.Nothing → HasValueForEach n k
-none_valued n k e = subst (HasValueForEach n) (sym e) tt
 
 module _ (m : Seen) (s : State) (r : Represents m s) where
   -- the logic is chosen where that of the program is
@@ -59,7 +55,7 @@ module _ (m : Seen) (s : State) (r : Represents m s) where
   under_grown (Some c) nodes k h = all_stay c (length s.declared) m.formulas nodes k s.asserted m.asserted h
 
   pub grown_state : (nodes : List (Shape FormulaId)) → Keeps (IsId m.formulas) (tree m.formulas) (IsId nodes) (tree nodes) → Represents (record m { formulas = nodes }) s
-  grown_state nodes k = record { logic = r.logic; declared = r.declared; asserted = under_grown s.logic nodes k r.asserted; kept = r.kept; counted = r.counted }
+  grown_state nodes k = record { logic = r.logic; declared = r.declared; asserted = under_grown s.logic nodes k r.asserted; kept = r.kept }
 
   -- ids of what is asserted, in any case
   pub ids_under : (o : Option Context) → AreStoredUnder o (length s.declared) m.formulas s.asserted m.asserted → AllByRecursion (IsId m.formulas) m.asserted
@@ -76,7 +72,7 @@ module _ (m : Seen) (s : State) (r : Represents m s) where
   under_again (Some c) nodes ids a h = stored_again c (length s.declared) m.formulas nodes s.asserted m.asserted ids h a.are a.same
 
   pub tidied_state : (nodes : List (Shape FormulaId)) (ids : List FormulaId) → AreMade (IsId nodes) (tree nodes) ids (map (tree m.formulas) m.asserted) → Represents (record m { formulas = nodes; asserted = ids }) s
-  tidied_state nodes ids a = record { logic = r.logic; declared = r.declared; asserted = under_again s.logic nodes ids a r.asserted; kept = r.kept; counted = r.counted }
+  tidied_state nodes ids a = record { logic = r.logic; declared = r.declared; asserted = under_again s.logic nodes ids a r.asserted; kept = r.kept }
 
   -- a logic is chosen
   pub chosen_state : (t : Theory) (c : Context) → context_of t ≡ c → m.logic ≡ None → Represents (record m { logic = Some t }) (record s { logic = Some c })
@@ -85,7 +81,6 @@ module _ (m : Seen) (s : State) (r : Represents m s) where
     declared = r.declared;
     asserted = nothing_stored s.logic c (length s.declared) m.formulas s.asserted m.asserted (no_logic n) r.asserted;
     kept = r.kept;
-    counted = r.counted;
   }
 
   module _ (c : Context) (l : s.logic ≡ Some c) where
@@ -96,7 +91,6 @@ module _ (m : Seen) (s : State) (r : Represents m s) where
       declared = e ∙ ap (λ ns. ns ++ x ∷ []) r.declared;
       asserted = under c l (length (s.declared ++ x ∷ [])) m.formulas s.asserted m.asserted (stored_under_more c (length s.declared) m.formulas (length (s.declared ++ x ∷ [])) more s.asserted m.asserted (stored c l));
       kept = refl;
-      counted = tt;
     }
       where
         more : length s.declared ≤ length (s.declared ++ x ∷ [])
@@ -111,9 +105,17 @@ module _ (m : Seen) (s : State) (r : Represents m s) where
       asserted = under c l (length s.declared) nodes (s.asserted ++ f ∷ []) ids (subst (AreStored c (length s.declared) nodes (s.asserted ++ f ∷ [])) (sym e)
           (one_more_stored c (length s.declared) nodes s.asserted m.asserted f id (all_stay c (length s.declared) m.formulas nodes k s.asserted m.asserted (stored c l)) h));
       kept = refl;
-      counted = tt;
     }
 
   -- a check leaves values or none
-  pub checked_state : (k : Kept) (o : state.Kept) → kept_of k ≡ o → HasValueForEach (length s.declared) o → Represents (record m { kept = k }) (record s { kept = o })
-  checked_state k o e v = record { logic = r.logic; declared = r.declared; asserted = r.asserted; kept = e; counted = v }
+  pub checked_state : (k : Kept) → Represents (record m { kept = k }) (record s { kept = kept_of k })
+  checked_state k = record { logic = r.logic; declared = r.declared; asserted = r.asserted; kept = refl }
+
+  -- the same ids under another list of memory
+  pub same_ids : (ids : List FormulaId) → ids ≡ m.asserted → Represents (record m { asserted = ids }) s
+  same_ids ids e = record {
+    logic = r.logic;
+    declared = r.declared;
+    asserted = subst (AreStoredUnder s.logic (length s.declared) m.formulas s.asserted) (sym e) r.asserted;
+    kept = r.kept;
+  }

@@ -40,16 +40,9 @@ abbrev pub AreStoredUnder : Option Context → ℕ → List (Shape FormulaId) �
 AreStoredUnder None count nodes fs ids = (fs ≡ []) × (ids ≡ [])
 AreStoredUnder (Some c) count nodes fs ids = AreStored c count nodes fs ids
 
--- there is a value for each of so many names, where there are values
-abbrev pub HasValueForEach : ℕ → state.Kept → Type 0
-HasValueForEach count state.Nothing = Unit {0}
-HasValueForEach count state.TooLarge = Unit {0}
-HasValueForEach count (state.Values vs) = length vs ≡ count
-
 -- what is kept is this state
 pub record Represents (m : Seen) (s : State) : Type 0 where
   pub logic : option_map context_of m.logic ≡ s.logic
   pub declared : m.declared ≡ s.declared
   pub asserted : AreStoredUnder s.logic (length s.declared) m.formulas s.asserted m.asserted
   pub kept : kept_of m.kept ≡ s.kept
-  pub counted : HasValueForEach (length s.declared) s.kept

@@ -32,14 +32,14 @@ pub struct Smt {
 }
 
 impl Model for Smt {
-    ghost use Rattle.std.specs.Prelude.{◌≤◌};
-    ghost use Rattle.smtlib_front.specs.Seen.{Seen};
+    ghost use Rattle.std.specs.Prelude.{◌≤◌, length};
+    ghost use Rattle.smtlib_front.specs.Seen.{Seen, HasValueForEach};
 
     ghost Value = { Seen };
 
     ghost view = { λ s. record { limits = s.limits; formulas = s.store; logic = s.logic; declared = s.declared; asserted = s.asserted.items; kept = s.kept } };
 
-    ghost invariant = { λ s. 1 ≤ s.limits.workers };
+    ghost invariant = { λ s. (1 ≤ s.limits.workers) × HasValueForEach (length s.declared) s.kept };
 }
 
 impl Smt {
