@@ -23,8 +23,8 @@ use Rattle.smt_syntax.specs.declared.names.SortedName.{SortedName}
 use Rattle.smt_syntax.specs.Trees.{ExpressionTree, CommandTree, Choose, Declare, Assert, Values}
 use Rattle.smt_meaning.specs.Atoms.{quantified_names}
 use Rattle.smt_meaning.specs.Levels.{AreLevelsBelow}
-use Rattle.smt_meaning.specs.Meaning.{declared_scope, meaning, sort_name}
-use Rattle.smt_meaning.specs.Operators.{Formula, as_formula}
+use Rattle.smt_meaning.specs.Meaning.{as_formula, declared_scope, meaning, sort_name}
+use Rattle.smt_meaning.specs.Operators.{Formula}
 use Rattle.smt_meaning.specs.Proper.{IsProper}
 use Rattle.smt_meaning.proofs.MeaningNames.{as_formula_there, levels_suffice}
 use Rattle.smt_resolving.specs.Asserted.{IsAsserted, IsAssertedAs, IsRefusedFor}

@@ -45,4 +45,6 @@ module _ (old : List (Shape FormulaId)) (asserted : List FormulaId) (count : ℕ
 
   -- under all
   pub under_all : (nodes : List (Shape FormulaId)) (id : FormulaId) (level : ℕ) → level ≡ 0 → IsUnder old asserted count nodes id level → IsMade (IsId nodes) (tree nodes) id (under_names 0 count joined)
-  under_all nodes id level e u = (subst (λ d. IsUnder old asserted count nodes id d) e u).made
+  under_all nodes id level e u =
+      let g : count - 0 ≡ count = omega arith in
+      subst (λ d. IsMade (IsId nodes) (tree nodes) id (under_names 0 d joined)) g (subst (λ d. IsUnder old asserted count nodes id d) e u).made

@@ -27,6 +27,7 @@ impl Smt {
         rt: &R,
         gate: &G,
     ) -> Result<SmtReply, SmtError>
+        requires state { (s : State) × Represents self.old s }
         ensures does { (s : State) → Represents self.old s → Does s self.old.limits.nodes Check result self.new }
         ensures limits { self.new.limits ≡ self.old.limits }
     {
@@ -54,7 +55,9 @@ impl Smt {
 
     /// Gives up the formulas that nothing asserted needs.
     fn tidy(&mut self) -> Result<(), AllocError>
+        requires state { (s : State) × Represents self.old s }
         ensures state { (s : State) → Represents self.old s → Represents self.new s }
+        ensures declared { self.new.declared ≡ self.old.declared }
         ensures limits { self.new.limits ≡ self.old.limits }
     {
         let Ok(ids) = self.store.keep_only(&self.asserted) else {

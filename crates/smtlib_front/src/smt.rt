@@ -68,6 +68,7 @@ impl Smt {
         bytes: &[u8],
         gate: &G,
     ) -> Result<SmtReply, SmtError>
+        requires state { (s : State) × Represents self.old s }
         ensures reply { (s : State) → Represents self.old s → (next : State) × Replies s self.old.limits.nodes bytes.now result next × Represents self.new next }
         ensures limits { self.new.limits ≡ self.old.limits }
     {
@@ -83,6 +84,7 @@ impl Smt {
         gate: &G,
     ) -> Result<SmtReply, SmtError>
         requires proper { HasProperNumbers (command_tree command.now) }
+        requires state { (s : State) × Represents self.old s }
         ensures does { (s : State) → Represents self.old s → Does s self.old.limits.nodes (command_tree command.now) result self.new }
         ensures limits { self.new.limits ≡ self.old.limits }
     {

@@ -10,6 +10,7 @@ ghost use Rattle.smtlib_front.specs.Steps.{Does};
 
 use crate::kept::Kept;
 use crate::smt::Smt;
+use formula_tree::Names;
 use qe_syntax::Name;
 use redlog_printer::PrintError;
 use smt_runs::{SmtError, SmtReply};
@@ -28,7 +29,7 @@ impl Smt {
             Kept::TooLarge => None,
             Kept::Values(values) => Some(values),
         };
-        if self.has_undeclared(asked) {
+        if has_undeclared(&self.declared, asked) {
             return Err(SmtError::Undeclared);
         }
         let Some(values) = values else {
@@ -40,11 +41,11 @@ impl Smt {
             Err(PrintError::Memory) => Err(SmtError::Memory),
         }
     }
+}
 
-    /// Whether one of the names is not declared.
-    fn has_undeclared(&self, asked: &[Name]) -> bool
-        ensures { result ≡ list_any (λ x. not (is_some (position (same_name x) self.now.declared))) asked.now }
-    {
-        asked.iter().any(|name| self.declared.find(name).is_none())
-    }
+/// Whether one of the names is not declared.
+fn has_undeclared(declared: &Names, asked: &[Name]) -> bool
+    ensures { result ≡ list_any (λ x. not (is_some (position (same_name x) declared.now))) asked.now }
+{
+    asked.iter().any(|name| declared.find(name).is_none())
 }
