@@ -31,10 +31,10 @@ pub data RunTo (limit : ℕ) (script : List ℕ) : List SmtCut → State → Lis
   -- no command
   begin : RunTo limit script [] first_state [] false
   -- one more, which is answered
-  answered : {cuts : List SmtCut} {cut : SmtCut} {s next : State} {lines : List ℕ} {refusal : Bool} (r : SmtReply) → RunTo limit script cuts s lines refusal → r ≢ reply.Finished
+  answered : {cuts : List SmtCut} (cut : SmtCut) {s next : State} {lines : List ℕ} {refusal : Bool} (r : SmtReply) → RunTo limit script cuts s lines refusal → r ≢ reply.Finished
       → Replies s limit (bytes_of script cut) (Ok r) next → RunTo limit script (cuts ++ cut ∷ []) next (lines ++ lines_of r) refusal
   -- one more, which is refused
-  refused : {cuts : List SmtCut} {cut : SmtCut} {s next : State} {lines : List ℕ} {refusal : Bool} (cause : SmtError) → RunTo limit script cuts s lines refusal → cause ≢ error.Memory
+  refused : {cuts : List SmtCut} (cut : SmtCut) {s next : State} {lines : List ℕ} {refusal : Bool} (cause : SmtError) → RunTo limit script cuts s lines refusal → cause ≢ error.Memory
       → Replies s limit (bytes_of script cut) (Err cause) next → RunTo limit script (cuts ++ cut ∷ []) next (lines ++ line_of (refusal_text (word_of cause) cut.start)) true
 
 -- a command ends the script, and those after it are not answered

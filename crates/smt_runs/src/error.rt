@@ -1,8 +1,10 @@
 ghost use Rattle.std.specs.Prelude.{◌≡◌};
 ghost use Rattle.smt_runs.specs.Words.{of_reading, of_assertion, word_of};
+ghost use Rattle.smt_runs.specs.declared.error.SmtError.TheVariants as error;
 
 use smt_reader::ReadError;
 use smt_resolving::AssertError;
+use std::alloc::AllocError;
 use thiserror::Error;
 
 /// Why a command is refused, or that memory ran out. The causes are ordered as they are looked for, and each is told by its word.
@@ -73,6 +75,14 @@ impl SmtError {
             SmtError::Text => "text",
             SmtError::Memory => "memory",
         }
+    }
+}
+
+impl From<AllocError> for SmtError {
+    ghost from_gives = { λ _ e. e ≡ error.Memory };
+
+    fn from(_error: AllocError) -> SmtError {
+        SmtError::Memory
     }
 }
 

@@ -1,0 +1,4 @@
+pub mod Reading
+pub mod Outcome
+pub mod Steps
+pub mod Unrefused
