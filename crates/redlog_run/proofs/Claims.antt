@@ -32,7 +32,7 @@ use Rattle.redlog_run.specs.Steps.{ClaimOfSource, ClaimOfSmt, ClaimOfGenerated}
 use Rattle.qe_io.proofs.Joined.{gave_none, took_none, gave_joined, still_at_end}
 use Rattle.redlog_run.proofs.Reaching.{too_long}
 use Rattle.redlog_run.proofs.Unrefused.{unrefused_scripts}
-use Rattle.smt_answers.specs.Outcome.{SmtOutcome, SmtFaults}
+use Rattle.smt_answers.specs.Stops.{SmtOutcome, SmtFaults}
 use Rattle.smt_answers.proofs.Unrefused.{unrefused_source, not_too_long}
 
 -- ---- a script of the source

@@ -9,7 +9,8 @@ use Rattle.smt_runs.specs.Run.{RunTo, begin, answered, refused, RunOfCuts, all, 
 use Rattle.smt_runs.specs.State.{State}
 use Rattle.smt_answers.specs.Outcome.{SmtAnswered, ReadTooMany}
 use Rattle.smt_answers.specs.Reading.{smt_limit, IsRead}
-use Rattle.smt_answers.specs.Unrefused.{IsSmtUnrefused, UnrefusedSmtScriptsHaveNoRefusal}
+use Rattle.smt_answers.specs.Unrefused.{IsSmtUnrefused}
+use Rattle.smt_answers.specs.NoRefusal.{UnrefusedSmtScriptsHaveNoRefusal}
 
 module _ (limit : ℕ) (script : List ℕ) (u : IsSmtUnrefused limit script) where
   one_more : (front rest : List SmtCut) (cut : SmtCut) → AreCommands script ((front ++ cut ∷ []) ++ rest) → AreCommands script (front ++ cut ∷ rest)

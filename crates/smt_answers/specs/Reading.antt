@@ -1,9 +1,6 @@
 -- What is read of a source that gives a script in SMT-LIB.
-use Rattle.std.specs.Prelude.{◌≡◌, ℕ, ◌+◌, ◌<◌, ◌≤◌, ◌^◌, List, length, Option}
-use Rattle.qe_io.specs.Streams.{Gave, IsAtEnd, Rose}
-use Rattle.qe_io.specs.declared.stop.AnswerStop.TheVariants as answer
-use Rattle.qe_io.specs.declared.stop.StreamStop.{StreamStop}
-use Rattle.qe_io.specs.declared.stop.StreamStop.TheVariants as stop
+use Rattle.std.specs.Prelude.{ℕ, ◌+◌, ◌<◌, ◌≤◌, ◌^◌, List, length, Option}
+use Rattle.qe_io.specs.Streams.{Gave, IsAtEnd}
 
 -- a script in SMT-LIB is at most so long, in bytes
 abbrev pub smt_limit : ℕ
@@ -31,10 +28,3 @@ pub record GavePast (left later : Option (List ℕ)) : Type 0 where
   pub gave : Gave left later bytes
   pub past : smt_limit < length bytes
   pub one_read : length bytes ≤ smt_limit + smt_read_size
-
--- why a script is not read, by what the source has left and its count of faults, before and after
-abbrev pub ReadStops : Option (List ℕ) → Option (List ℕ) → ℕ → ℕ → StreamStop → Type 0
-ReadStops left later faults counted stop.Read = GaveWithin left later × Rose faults counted
-ReadStops left later faults counted stop.Long = GavePast left later × (counted ≡ faults)
-ReadStops left later faults counted (stop.Answer answer.Memory) = GaveWithin left later × (counted ≡ faults)
-ReadStops left later faults counted (stop.Answer answer.Write) = ⊥

@@ -1,11 +1,11 @@
 -- Scripts in SMT-LIB of commands that have no cause of a refusal.
-use Rattle.std.specs.Prelude.{◌≢◌, ℕ, List, ◌∷◌, ◌++◌, true, false, Err}
+use Rattle.std.specs.Prelude.{◌≢◌, ℕ, List, ◌∷◌, ◌++◌, false, Err}
 use Rattle.smt_tokens.specs.declared.token.SmtCut.{SmtCut}
 use Rattle.smt_tokens.specs.Commands.{AreCommands}
 use Rattle.smt_runs.specs.declared.error.SmtError.{SmtError}
 use Rattle.smt_runs.specs.declared.error.SmtError.TheVariants as error
 use Rattle.smt_runs.specs.Replies.{Replies}
-use Rattle.smt_runs.specs.Run.{RunTo, SmtRun, bytes_of}
+use Rattle.smt_runs.specs.Run.{RunTo, bytes_of}
 use Rattle.smt_runs.specs.State.{State}
 
 -- the command of these bytes may not be refused
@@ -16,13 +16,3 @@ IsUnrefusedCommand s limit bytes = (cause : SmtError) (next : State) → cause �
 abbrev pub IsSmtUnrefused : ℕ → List ℕ → Type 0
 IsSmtUnrefused limit script =
     (front rest : List SmtCut) (cut : SmtCut) (s : State) (lines : List ℕ) → RunTo limit script front s lines false → AreCommands script (front ++ cut ∷ rest) → IsUnrefusedCommand s limit (bytes_of script cut)
-
--- ---- what is proved
-
--- no run of the script has a refusal
-abbrev pub HasNoSmtRefusal : ℕ → List ℕ → Type 0
-HasNoSmtRefusal limit script = ¬ ((lines : List ℕ) × SmtRun limit script lines true)
-
--- a script of commands that have no cause of a refusal is answered without one
-abbrev pub UnrefusedSmtScriptsHaveNoRefusal : Type 0
-UnrefusedSmtScriptsHaveNoRefusal = (limit : ℕ) (script : List ℕ) → IsSmtUnrefused limit script → HasNoSmtRefusal limit script

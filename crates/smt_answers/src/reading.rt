@@ -1,5 +1,6 @@
 ghost use Rattle.std.specs.Prelude.{◌≡◌, IfOk, IfErr, OnOk};
-ghost use Rattle.smt_answers.specs.Reading.{IsRead, ReadStops};
+ghost use Rattle.smt_answers.specs.Reading.{IsRead};
+ghost use Rattle.smt_answers.specs.Stops.{ReadStops};
 
 use qe_io::{Source, StreamStop};
 use std::alloc::Global;

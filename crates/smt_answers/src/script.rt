@@ -1,7 +1,7 @@
 ghost use Rattle.std.specs.Prelude.{◌≡◌, ◌≤◌, IfErr, OnOk};
 ghost use Rattle.qe_io.specs.Ends.{ends};
 ghost use Rattle.qe_io.specs.Stops.{AnswerCause};
-ghost use Rattle.smt_answers.specs.Outcome.{SmtFaults, SmtOutcome};
+ghost use Rattle.smt_answers.specs.Stops.{SmtFaults, SmtOutcome};
 ghost use Rattle.smt_answers.specs.Steps.{AnswersScript};
 
 use crate::command::{Step, answer_command};

@@ -3,7 +3,8 @@ use Rattle.std.specs.Prelude.{IfErr}
 use Rattle.std.proofs.lemmas.Result.{err_from_is_err_and}
 use Rattle.qe_io.specs.declared.stop.AnswerStop.TheVariants as answer
 use Rattle.qe_io.specs.declared.stop.StreamStop.TheVariants as streams
-use Rattle.smt_answers.specs.Reading.{smt_limit, ReadStops}
+use Rattle.smt_answers.specs.Reading.{smt_limit}
+use Rattle.smt_answers.specs.Stops.{ReadStops}
 use Rattle.smt_answers.proofs.Whole.{gave_within, gave_past}
 use Rattle.smt_answers.proofs.reading.read_whole.Goals as goal
 
