@@ -57,3 +57,11 @@ impl From<AnswerStop> for StreamStop {
         StreamStop::Answer(stop)
     }
 }
+
+impl From<AllocError> for StreamStop {
+    ghost from_gives = { λ _ e. e ≡ Answer Memory };
+
+    fn from(_error: AllocError) -> StreamStop {
+        StreamStop::Answer(AnswerStop::Memory)
+    }
+}

@@ -1,9 +1,11 @@
 -- What holds of the program, from what holds of its steps.
 use Rattle.std.proofs.Common.{◌≡◌, ◌≢◌, inl, inr, ℕ, ◌+◌, ◌-◌, ◌<◌, ◌≤◌, Bool, true, false, List, [], ◌++◌, length, take, drop, refl, sym, ap, ◌∙◌, subst, append-nil, append_assoc, arith, length-append, length-drop}
 use Rattle.std.proofs.lemmas.List.{take-append-drop, take_all, length-take-le}
-use Rattle.std.specs.Prelude.{◌⊎◌, Option, Some, None, Ok, Err}
+use Rattle.std.specs.Prelude.{◌⊎◌, Option, Some, None, Result, Ok, Err}
 use Rattle.std.specs.declared.alloc.Global.{Global}
 use Rattle.std.specs.declared.string.String.{String}
+use Rattle.command_words.specs.declared.options.Language.{Language}
+use Rattle.command_words.specs.declared.options.Language.TheVariants.{Redlog, SmtLib}
 use Rattle.command_words.specs.declared.options.Options.{Options}
 use Rattle.command_words.specs.Words.{Spells}
 use Rattle.command_words.proofs.Spelling.{words_spell_once}
@@ -15,20 +17,23 @@ use Rattle.session_commands.specs.Seen.{state_in}
 use Rattle.redlog_run.specs.declared.answer.Answering.{Answering}
 use Rattle.qe_io.specs.declared.stop.AnswerStop.{AnswerStop}
 use Rattle.qe_io.specs.declared.stop.AnswerStop.TheVariants as answer
+use Rattle.qe_io.specs.declared.stop.StreamStop.{StreamStop}
 use Rattle.qe_io.specs.declared.stop.StreamStop.TheVariants as streams
 use Rattle.redlog_run.specs.declared.status.Status.{Status}
 use Rattle.redlog_run.specs.declared.status.Status.TheVariants as status
 use Rattle.redlog_run.specs.Claim.{Claim}
 use Rattle.redlog_run.specs.ClaimUnder.{ClaimUnder}
 use Rattle.qe_io.specs.Ends.{Ends, ends, HasFailed, TookFront}
-use Rattle.redlog_run.specs.Outcome.{script_limit, read_size, node_limit, Given, IsWhole, Answered, OutcomeOfSource, outcome_of, completes_of, Faults}
+use Rattle.redlog_run.specs.Outcome.{script_limit, read_size, node_limit, Given, IsWhole, Answered, OutcomeOfSource, OutcomeOfSmt, outcome_of, completes_of, Faults}
 use Rattle.redlog_run.specs.Run.{RunOf, begin, RunsSo, RunsAll, IsEndedWith}
 use Rattle.qe_io.specs.Stops.{AnswerCause}
 use Rattle.redlog_run.specs.Script.{IsWritten, Part, EndsIn, AnswersBytes, AnswersLast, stream_status}
-use Rattle.redlog_run.specs.Steps.{ClaimOfSource, ClaimOfGenerated}
+use Rattle.redlog_run.specs.Steps.{ClaimOfSource, ClaimOfSmt, ClaimOfGenerated}
 use Rattle.qe_io.proofs.Joined.{gave_none, took_none, gave_joined, still_at_end}
 use Rattle.redlog_run.proofs.Reaching.{too_long}
 use Rattle.redlog_run.proofs.Unrefused.{unrefused_scripts}
+use Rattle.smt_answers.specs.Stops.{SmtOutcome, SmtFaults}
+use Rattle.smt_answers.proofs.Unrefused.{unrefused_source, not_too_long}
 
 -- ---- a script of the source
 
@@ -205,13 +210,28 @@ module _ (limit : ℕ) (left later : Option (List ℕ)) (reads counted : ℕ) (w
     last_claim answer.Memory e w = memory_claim given_all e.0 e.1 e.2 r w
     last_claim answer.Write e w = unwritten_claim given_all e.0 (inr ((e.1).0, whole_as ((e.1).0) e.0 ((e.1).1))) e.2 r w
 
+-- ---- under options
+
+-- the limit, the language and the number are those of the options
+module _ (options : Options) (before after : Ends) (s : Status) {limit : ℕ} {language : Language} {generate : Option ℕ} (same : limit ≡ node_limit options) (l : options.language ≡ language) (e : options.generate ≡ generate) where
+  outcome_under : outcome_of limit language generate before after s → outcome_of (node_limit options) options.language options.generate before after s
+  outcome_under o =
+      subst (λ k. outcome_of (node_limit options) k options.generate before after s) (sym l)
+      (subst (λ n. outcome_of (node_limit options) language n before after s) (sym e) (subst (λ m. outcome_of m language generate before after s) same o))
+
+module _ (options : Options) (before : Ends) (s : Status) {limit : ℕ} {language : Language} {generate : Option ℕ} (same : limit ≡ node_limit options) (l : options.language ≡ language) (e : options.generate ≡ generate) where
+  completes_under : completes_of limit language generate before s → completes_of (node_limit options) options.language options.generate before s
+  completes_under o =
+      subst (λ k. completes_of (node_limit options) k options.generate before s) (sym l)
+      (subst (λ n. completes_of (node_limit options) language n before s) (sym e) (subst (λ m. completes_of m language generate before s) same o))
+
 -- ---- a generated script
 
 module _ (options : Options) (left : Option (List ℕ)) (reads : ℕ) (wrote after : Option (List ℕ)) (writes later limit n : ℕ) where
   abbrev IsClaimed : Status → Type 0
   IsClaimed s =
-      Faults (ends left reads wrote writes) (ends left reads after later) s × outcome_of limit (Some n) (ends left reads wrote writes) (ends left reads after later) s ×
-      (¬ (HasFailed (ends left reads wrote writes) (ends left reads after later)) → completes_of limit (Some n) (ends left reads wrote writes) s)
+      Faults (ends left reads wrote writes) (ends left reads after later) s × outcome_of limit Redlog (Some n) (ends left reads wrote writes) (ends left reads after later) s ×
+      (¬ (HasFailed (ends left reads wrote writes) (ends left reads after later)) → completes_of limit Redlog (Some n) (ends left reads wrote writes) s)
 
   claimed : (s : Status) → ClaimOfGenerated limit n wrote after writes later s → IsClaimed s
   claimed status.Done c = ((refl, c.1), (refl, c.0), λ sound u. inl refl)
@@ -225,29 +245,53 @@ module _ (options : Options) (left : Option (List ℕ)) (reads : ℕ) (wrote aft
   unused : (s : Status) → ClaimOfGenerated limit n wrote after writes later s → s ≢ status.Usage
   unused s c e = subst (ClaimOfGenerated limit n wrote after writes later) e c
 
-  pub under_generated : (s : Status) → limit ≡ node_limit options → options.generate ≡ Some n → ClaimOfGenerated limit n wrote after writes later s
+  pub under_generated : (s : Status) → limit ≡ node_limit options → options.language ≡ Redlog → options.generate ≡ Some n → ClaimOfGenerated limit n wrote after writes later s
       → ClaimUnder options (ends left reads wrote writes) (ends left reads after later) s
-  under_generated s same e c =
+  under_generated s same l e c =
       let k = claimed s c in
+      let before = ends left reads wrote writes in
+      let now = ends left reads after later in
       record {
         used = unused s c;
         faults = k.0;
-        outcome = subst (λ o. outcome_of (node_limit options) o (ends left reads wrote writes) (ends left reads after later) s) (sym e)
-            (subst (λ m. outcome_of m (Some n) (ends left reads wrote writes) (ends left reads after later) s) same k.1);
-        complete = λ sound. subst (λ o. completes_of (node_limit options) o (ends left reads wrote writes) s) (sym e) (subst (λ m. completes_of m (Some n) (ends left reads wrote writes) s) same (k.2 sound));
+        outcome = outcome_under options before now s same l e k.1;
+        complete = λ sound. completes_under options before s same l e (k.2 sound);
       }
+
+-- ---- a script in SMT-LIB
+
+-- by the end of its answers
+pub smt_claim : (limit : ℕ) (before after : Ends) (r : Result Bool StreamStop) → SmtOutcome limit before after r → SmtFaults before after r → ClaimOfSmt limit before after (stream_status r)
+smt_claim limit before after (Ok false) o f = record { faults = f; outcome = o; complete = λ sound script e h u. inl refl }
+smt_claim limit before after (Ok true) o f = record { faults = f; outcome = o; complete = λ sound script e h u. absurd (unrefused_source limit before after script e u o) }
+smt_claim limit before after (Err streams.Read) o f = record { faults = f; outcome = o; complete = λ sound. absurd (sound (inl f.0)) }
+smt_claim limit before after (Err streams.Long) o f = record { faults = f; outcome = o; complete = λ sound script e h u. absurd (not_too_long before after script e h o) }
+smt_claim limit before after (Err (streams.Answer answer.Memory)) o f = record { faults = f; outcome = o; complete = λ sound script e h u. inr refl }
+smt_claim limit before after (Err (streams.Answer answer.Write)) o f = record { faults = f; outcome = o; complete = λ sound. absurd (sound (inr f.1)) }
 
 -- ---- the options
 
 source_used : (limit : ℕ) (before after : Ends) (s : Status) → OutcomeOfSource limit before after s → s ≢ status.Usage
 source_used limit before after s h e = subst (OutcomeOfSource limit before after) e h
 
-pub under_source : (options : Options) (limit : ℕ) (before after : Ends) (s : Status) → limit ≡ node_limit options → options.generate ≡ None → ClaimOfSource limit before after s → ClaimUnder options before after s
-under_source options limit before after s same e c = record {
+smt_used : (limit : ℕ) (before after : Ends) (s : Status) → OutcomeOfSmt limit before after s → s ≢ status.Usage
+smt_used limit before after s h e = subst (OutcomeOfSmt limit before after) e h
+
+pub under_source : (options : Options) (limit : ℕ) (before after : Ends) (s : Status) → limit ≡ node_limit options → options.language ≡ Redlog → options.generate ≡ None → ClaimOfSource limit before after s
+    → ClaimUnder options before after s
+under_source options limit before after s same l e c = record {
   used = source_used limit before after s c.outcome;
   faults = c.faults;
-  outcome = subst (λ o. outcome_of (node_limit options) o before after s) (sym e) (subst (λ m. OutcomeOfSource m before after s) same c.outcome);
-  complete = λ sound. subst (λ o. completes_of (node_limit options) o before s) (sym e) (subst (λ m. completes_of m None before s) same (c.complete sound));
+  outcome = outcome_under options before after s same l e c.outcome;
+  complete = λ sound. completes_under options before s same l e (c.complete sound);
+}
+
+pub under_smt : (options : Options) (limit : ℕ) (before after : Ends) (s : Status) → limit ≡ node_limit options → options.language ≡ SmtLib → ClaimOfSmt limit before after s → ClaimUnder options before after s
+under_smt options limit before after s same l c = record {
+  used = smt_used limit before after s c.outcome;
+  faults = c.faults;
+  outcome = outcome_under options before after s same l refl c.outcome;
+  complete = λ sound. completes_under options before s same l refl (c.complete sound);
 }
 
 -- ---- the words
@@ -261,12 +305,13 @@ claim_under words found before after s h c = record {
   usage = (λ e. absurd (c.used e), λ none. absurd (none (found, h)));
   unused = λ e. absurd (c.used e);
   faults = c.faults;
-  outcome = for_each words found h (λ o. outcome_of (node_limit o) o.generate before after s) c.outcome;
-  complete = λ sound. for_each words found h (λ o. completes_of (node_limit o) o.generate before s) (c.complete sound);
+  outcome = for_each words found h (λ o. outcome_of (node_limit o) o.language o.generate before after s) c.outcome;
+  complete = λ sound. for_each words found h (λ o. completes_of (node_limit o) o.language o.generate before s) (c.complete sound);
 }
 
-unwritten : (limit : ℕ) (o : Option ℕ) (e : Ends) → outcome_of limit o e e status.Memory
-unwritten limit None e = (
+unwritten : (limit : ℕ) (l : Language) (o : Option ℕ) (e : Ends) → outcome_of limit l o e e status.Memory
+unwritten limit SmtLib o e = inl (record { given = record { bytes = []; gave = gave_none e.left; within = omega arith }; unwritten = refl })
+unwritten limit Redlog None e = (
   [],
   record {
     given = record { script = []; ahead = []; gave = gave_none e.left; within = omega arith; one_read = omega arith };
@@ -274,17 +319,18 @@ unwritten limit None e = (
   },
   took_none e.wrote,
 )
-unwritten limit (Some n) e = (refl, refl)
+unwritten limit Redlog (Some n) e = (refl, refl)
 
-out_of_memory : (limit : ℕ) (o : Option ℕ) (e : Ends) → completes_of limit o e status.Memory
-out_of_memory limit None e = λ script same h u. inr refl
-out_of_memory limit (Some n) e = λ u. inr refl
+out_of_memory : (limit : ℕ) (l : Language) (o : Option ℕ) (e : Ends) → completes_of limit l o e status.Memory
+out_of_memory limit SmtLib o e = λ script same h u. inr refl
+out_of_memory limit Redlog None e = λ script same h u. inr refl
+out_of_memory limit Redlog (Some n) e = λ u. inr refl
 
 pub claim_memory : (words : List (String Global)) (e : Ends) → (options : Options) × Spells words options → Claim words e e status.Memory
 claim_memory words e some = record {
   usage = (λ u. absurd (cc), λ none. absurd (none some));
   unused = λ u. absurd (cc);
   faults = (refl, refl);
-  outcome = λ options k. unwritten (node_limit options) options.generate e;
-  complete = λ sound options k. out_of_memory (node_limit options) options.generate e;
+  outcome = λ options k. unwritten (node_limit options) options.language options.generate e;
+  complete = λ sound options k. out_of_memory (node_limit options) options.language options.generate e;
 }

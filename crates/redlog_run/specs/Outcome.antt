@@ -1,5 +1,7 @@
 -- What was read and written, by the status that the program ends with.
 use Rattle.std.specs.Prelude.{◌≡◌, ℕ, ◌^◌, ◌≤◌, ◌⊎◌, List, [], ◌++◌, length, Option, Some, None, unwrap_or, Bool, true, false}
+use Rattle.command_words.specs.declared.options.Language.{Language}
+use Rattle.command_words.specs.declared.options.Language.TheVariants.{Redlog, SmtLib}
 use Rattle.command_words.specs.declared.options.Options.{Options}
 use Rattle.qe_io.specs.Streams.{Gave, IsAtEnd, Took, Rose}
 use Rattle.generated_scripts.specs.Generated.{generated, tally}
@@ -8,6 +10,9 @@ use Rattle.redlog_run.specs.declared.status.Status.TheVariants as status
 use Rattle.qe_io.specs.Ends.{Ends, TookFront}
 use Rattle.redlog_run.specs.Run.{RunOf, RunsSo, RunsAll, IsEndedWith, IsTooLong}
 use Rattle.redlog_run.specs.Unrefused.{IsUnrefused}
+use Rattle.smt_answers.specs.Outcome.{ReadSome, ReadTooMany, SmtAnswered, SmtAnsweredSo, SmtAnsweredFront}
+use Rattle.smt_answers.specs.Reading.{smt_limit}
+use Rattle.smt_answers.specs.Unrefused.{IsSmtUnrefused}
 
 -- a script is at most so long, in bytes
 abbrev pub script_limit : ℕ
@@ -88,16 +93,29 @@ OutcomeGenerated limit n before after status.ReadFault = ⊥
 OutcomeGenerated limit n before after status.ScriptLong = ⊥
 OutcomeGenerated limit n before after status.Usage = ⊥
 
--- ---- either
+-- ---- a script in SMT-LIB of the source: it is read whole before the first line is written
 
--- the outcome of the generated script where a number is given, else of the script of the source
-abbrev pub outcome_of : ℕ → Option ℕ → Ends → Ends → Status → Type 0
-outcome_of limit None before after s = OutcomeOfSource limit before after s
-outcome_of limit (Some n) before after s = OutcomeGenerated limit n before after s
+-- under a limit of nodes
+abbrev pub OutcomeOfSmt : ℕ → Ends → Ends → Status → Type 0
+OutcomeOfSmt limit before after status.Done = SmtAnswered limit before after false
+OutcomeOfSmt limit before after status.Refused = SmtAnswered limit before after true
+OutcomeOfSmt limit before after status.ReadFault = ReadSome before after
+OutcomeOfSmt limit before after status.ScriptLong = ReadTooMany before after
+OutcomeOfSmt limit before after status.Memory = ReadSome before after ⊎ SmtAnsweredSo limit before after
+OutcomeOfSmt limit before after status.WriteFault = SmtAnsweredFront limit before after
+OutcomeOfSmt limit before after status.Usage = ⊥
+
+-- ---- each of the three
+
+-- the outcome of the script in SMT-LIB under the flag, of the generated script where a number is given, else of the script of the source
+abbrev pub outcome_of : ℕ → Language → Option ℕ → Ends → Ends → Status → Type 0
+outcome_of limit SmtLib generate before after s = OutcomeOfSmt limit before after s
+outcome_of limit Redlog None before after s = OutcomeOfSource limit before after s
+outcome_of limit Redlog (Some n) before after s = OutcomeGenerated limit n before after s
 
 -- what was read and written under these options
 abbrev pub Outcome : Options → Ends → Ends → Status → Type 0
-Outcome options before after s = outcome_of (node_limit options) options.generate before after s
+Outcome options before after s = outcome_of (node_limit options) options.language options.generate before after s
 
 -- by the counts of failed reads and writes
 abbrev pub Faults : Ends → Ends → Status → Type 0
@@ -115,11 +133,13 @@ Faults before after status.ScriptLong = (after.reads_failed ≡ before.reads_fai
 abbrev pub IsDoneOrMemory : Status → Type 0
 IsDoneOrMemory s = (s ≡ status.Done) ⊎ (s ≡ status.Memory)
 
--- the script of a source that tells it, within the limit, or the generated one: if no statement of it has a cause of a refusal, it is answered, or memory runs out
-abbrev pub completes_of : ℕ → Option ℕ → Ends → Status → Type 0
-completes_of limit None before s = (script : List ℕ) → before.left ≡ Some script → length script ≤ script_limit → IsUnrefused limit script → IsDoneOrMemory s
-completes_of limit (Some n) before s = IsUnrefused limit (generated n) → IsDoneOrMemory s
+-- the script of a source that tells it, within the limit of its language, or the generated one: if no statement or command of it has a cause of
+-- a refusal, it is answered, or memory runs out
+abbrev pub completes_of : ℕ → Language → Option ℕ → Ends → Status → Type 0
+completes_of limit SmtLib generate before s = (script : List ℕ) → before.left ≡ Some script → length script ≤ smt_limit → IsSmtUnrefused limit script → IsDoneOrMemory s
+completes_of limit Redlog None before s = (script : List ℕ) → before.left ≡ Some script → length script ≤ script_limit → IsUnrefused limit script → IsDoneOrMemory s
+completes_of limit Redlog (Some n) before s = IsUnrefused limit (generated n) → IsDoneOrMemory s
 
 -- under these options, a script in which nothing has a cause of a refusal is answered, or memory runs out
 abbrev pub Completes : Options → Ends → Status → Type 0
-Completes options before s = completes_of (node_limit options) options.generate before s
+Completes options before s = completes_of (node_limit options) options.language options.generate before s

@@ -5,15 +5,23 @@ use Rattle.generated_scripts.specs.Generated.{generated, tally}
 use Rattle.redlog_run.specs.declared.status.Status.{Status}
 use Rattle.redlog_run.specs.declared.status.Status.TheVariants as status
 use Rattle.qe_io.specs.Ends.{Ends, HasFailed, TookFront}
-use Rattle.redlog_run.specs.Outcome.{script_limit, OutcomeOfSource, Faults, IsDoneOrMemory}
+use Rattle.redlog_run.specs.Outcome.{script_limit, OutcomeOfSource, OutcomeOfSmt, Faults, IsDoneOrMemory}
 use Rattle.redlog_run.specs.Run.{RunOf}
 use Rattle.redlog_run.specs.Unrefused.{IsUnrefused}
+use Rattle.smt_answers.specs.Reading.{smt_limit}
+use Rattle.smt_answers.specs.Unrefused.{IsSmtUnrefused}
 
 -- the claim of a script of the source
 pub record ClaimOfSource (limit : ℕ) (before after : Ends) (s : Status) : Type 0 where
   pub faults : Faults before after s
   pub outcome : OutcomeOfSource limit before after s
   pub complete : ¬ (HasFailed before after) → (script : List ℕ) → before.left ≡ Some script → length script ≤ script_limit → IsUnrefused limit script → IsDoneOrMemory s
+
+-- the claim of a script in SMT-LIB
+pub record ClaimOfSmt (limit : ℕ) (before after : Ends) (s : Status) : Type 0 where
+  pub faults : Faults before after s
+  pub outcome : OutcomeOfSmt limit before after s
+  pub complete : ¬ (HasFailed before after) → (script : List ℕ) → before.left ≡ Some script → length script ≤ smt_limit → IsSmtUnrefused limit script → IsDoneOrMemory s
 
 -- this is the line that counts the answers of the generated script of n, and one of them is a refusal or none
 abbrev pub IsTally : ℕ → ℕ → List ℕ → Bool → Type 0

@@ -5,6 +5,7 @@ mod answer;
 mod laws;
 mod process;
 mod program;
+mod smt;
 mod status;
 mod stream;
 mod team;

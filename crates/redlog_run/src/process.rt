@@ -25,7 +25,7 @@ pub enum WordsError {
 }
 
 /// The form of the words, told on standard error where they have another one.
-const USAGE: &str = "usage: redlog [--nodes n] [--workers n] [--generate n] < script";
+const USAGE: &str = "usage: redlog [--nodes n] [--workers n] [--generate n | --smt] < script";
 
 /// The whole process: takes the words after the program's name, answers the script that the reader gives on the writer, and
 /// ends with the number of the status. That is one which `finish` allows for some words, over ends that have not failed yet and

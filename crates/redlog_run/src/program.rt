@@ -8,11 +8,12 @@ ghost use Rattle.redlog_run.specs.Workers.{worker_limit};
 ghost use Rattle.redlog_run.specs.Steps.{ClaimOfGenerated, IsTally};
 
 use crate::answer::answer_script;
+use crate::smt::answer_smt_source;
 use crate::status::Status;
 use crate::stream::answer_source;
 use crate::team::Team;
 use crate::write::write_answer;
-use command_words::{Options, are_valid, options_of};
+use command_words::{Language, Options, are_valid, options_of};
 use generated_scripts::{generated, tally};
 use qe_io::{Sink, Source};
 use qe_parallel::{Gate, OpenGate};
@@ -27,9 +28,10 @@ const NODES: u64 = 1_000_000;
 const WORKERS: usize = 4;
 
 /// Reads a script from the source and writes the lines of its answers to the sink, under the words
-/// `[--nodes n] [--workers n] [--generate n]`: the first gives the limit of nodes; the second how many threads work on an
-/// elimination, at most, which changes no line; and under the third the script is a generated one, nothing is read, and one line says how
-/// many of its answers are true, false and refusals. What is promised is the claim of `specs/Claim.antt`.
+/// `[--nodes n] [--workers n] [--generate n | --smt]`: the first gives the limit of nodes; the second how many threads work on an
+/// elimination, at most, which changes no line; under the third the script is a generated one, nothing is read, and one line says how
+/// many of its answers are true, false and refusals; and under the last the script is one in SMT-LIB. What is promised is the claim of
+/// `specs/Claim.antt`.
 pub fn run<R: Threads + Sync, S: Source, K: Sink>(
     rt: &R,
     alloc: Global,
@@ -80,9 +82,12 @@ fn answer_under<R: Threads + Sync, S: Source, K: Sink, G: Gate + Sync>(
         (ends (S.left source.new) (S.faults source.new) (K.wrote sink.new) (K.faults sink.new)) result }
 {
     let limits = limits_of(options);
-    match options.generate {
-        Some(count) => answer_generated(team, alloc, limits, count, sink),
-        None => answer_source(team, alloc, limits, source, sink),
+    match options.language {
+        Language::SmtLib => answer_smt_source(team, alloc, limits, source, sink),
+        Language::Redlog => match options.generate {
+            Some(count) => answer_generated(team, alloc, limits, count, sink),
+            None => answer_source(team, alloc, limits, source, sink),
+        },
     }
 }
 

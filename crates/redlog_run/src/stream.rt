@@ -123,7 +123,7 @@ fn answer_end<R: Threads + Sync, K: Sink, G: Gate + Sync>(
 }
 
 /// The status with which a script of the source ends.
-fn stream_status(end: Result<bool, StreamStop>) -> Status
+pub fn stream_status(end: Result<bool, StreamStop>) -> Status
     ensures { result ≡ stream_status end }
 {
     match end {
