@@ -5,4 +5,4 @@ pub mod States
 pub mod Replied
 pub mod Answered
 pub mod Checked
-pub mod Sentences
+pub mod Made
