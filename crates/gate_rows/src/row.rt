@@ -73,12 +73,17 @@ impl Row {
         Ok(())
     }
 
-    /// The script is that of a file, and the lines are those of the file beside it.
+    /// The script is that of the `.red` file of this name, or of the `.smt2` file where the name ends so, and the lines are those of
+    /// the `.txt` file beside it.
     fn take_files<R: Files + AllocGlobal>(&mut self, rt: &R, name: &str) -> io::Result<()> {
-        let path = format!(in rt.alloc(); "{name}.red")?;
+        let (stem, ending) = match name.strip_suffix(".smt2") {
+            Some(stem) => (stem, "smt2"),
+            None => (name, "red"),
+        };
+        let path = format!(in rt.alloc(); "{stem}.{ending}")?;
         let script = fs::read_to_string(rt, path.as_str())?;
         self.script.extend_from_slice(script.as_bytes())?;
-        let path = format!(in rt.alloc(); "{name}.txt")?;
+        let path = format!(in rt.alloc(); "{stem}.txt")?;
         let lines = fs::read_to_string(rt, path.as_str())?;
         self.lines.extend_from_slice(lines.as_bytes())?;
         Ok(())

@@ -34,6 +34,7 @@ pub fn answer_command<R: Threads + Sync, G: Gate + Sync, K: Sink>(
     offset: usize,
     sink: &mut K,
 ) -> Result<Step, AnswerStop>
+    requires state { (s : State) × Represents smt.old s }
     ensures answers { (s : State) → Represents smt.old s → AnswersSo s smt.old.limits.nodes command.now offset (K.wrote sink.old) (K.wrote sink.new) smt.new result }
     ensures limits { smt.new.limits ≡ smt.old.limits }
     ensures no_fault { OnOk result (K.faults sink.new ≡ K.faults sink.old) }

@@ -1,10 +1,9 @@
 -- What becomes of a command, from what its parts promise.
-use Rattle.std.proofs.Common.{◌≡◌, ◌+◌, ◌≤◌, ◌<◌, inl, inr, ℕ, List, [], ◌∷◌, ◌++◌, Bool, true, false, Option, Some, None, Vec, Global, map, length, refl, sym, ap, ◌∙◌, subst}
+use Rattle.std.proofs.Common.{◌≡◌, ◌+◌, ◌≤◌, ◌<◌, inl, inr, ℕ, List, [], ◌∷◌, ◌++◌, Bool, true, false, Option, Some, None, Vec, Global, map, length, refl, ap, ◌∙◌, subst}
 use Rattle.std.specs.Prelude.{is_some, position, not, option_map}
 use Rattle.std.specs.List.{list_any}
 use Rattle.exact_numbers.specs.Fraction.{frac_of}
 use Rattle.exact_numbers.specs.declared.fraction.Fraction.{Fraction}
-use Rattle.formula_meaning.specs.Context.{Context}
 use Rattle.linear_forms.specs.declared.form.VarId.{VarId}
 use Rattle.atom_normal.specs.declared.atoms.Context.{Context as Theory}
 use Rattle.atom_normal.specs.Atoms.{context_of}

@@ -1,9 +1,8 @@
 -- Which causes of a refusal apply to which command.
-use Rattle.std.proofs.Common.{◌≡◌, ◌⊎◌, ◌<◌, ◌≤◌, inl, inr, ℕ, List, [], ◌∷◌, true, false, Option, Some, None, length, refl, sym, ◌∙◌, subst, arith}
+use Rattle.std.proofs.Common.{◌≡◌, ◌⊎◌, ◌<◌, ◌≤◌, inl, inr, ℕ, List, [], true, false, Some, None, length, refl, sym, ◌∙◌, subst, arith}
 use Rattle.std.specs.Prelude.{is_some, not}
 use Rattle.std.specs.List.{list_any}
 use Rattle.formula_meaning.specs.Context.{Context}
-use Rattle.formula_meaning.specs.Tree.{Tree}
 use Rattle.qe_syntax.specs.Trees.{FormulaTree}
 use Rattle.qe_syntax.specs.Value.{same_name}
 use Rattle.formula_tree.specs.Accepted.{IsAccepted as HasNoCause}
@@ -18,10 +17,9 @@ use Rattle.smt_syntax.specs.declared.names.SortedName.{SortedName}
 use Rattle.smt_syntax.specs.Trees.{ExpressionTree, CommandTree, Choose, Ignored, Declare, Assert, Check, Values, Exit}
 use Rattle.smt_meaning.specs.Meaning.{sort_name}
 use Rattle.smt_meaning.specs.Nodes.{formula_nodes}
-use Rattle.smt_resolving.specs.Asserted.{assertion_levels, is_undeclared, MeansFormula, MeansWithin, MeansNoFormula, MeansTooMany, MeetsFirst, IsRefusedFor}
+use Rattle.smt_resolving.specs.Asserted.{assertion_levels, is_undeclared, MeansFormula, MeansNoFormula, MeansTooMany, MeetsFirst, IsRefusedFor}
 use Rattle.smt_resolving.specs.declared.error.AssertError.{AssertError}
 use Rattle.smt_resolving.specs.declared.error.AssertError.TheVariants as assertion
-use Rattle.smt_runs.specs.declared.error.SmtError.{SmtError}
 use Rattle.smt_runs.specs.declared.error.SmtError.TheVariants as error
 use Rattle.smt_runs.specs.Causes.{IsOutOfTurn, InTheory, Meets, OfValues, HasLongLine, IsAccepted, IsFirst}
 use Rattle.smt_runs.specs.Sentence.{sentence}

@@ -1,8 +1,7 @@
 -- What a verdict on the sentence of a state says of the state.
-use Rattle.std.proofs.Common.{◌≡◌, ◌⊎◌, inr, ℕ, zero, suc, List, [], ◌∷◌, map, length, refl, sym, ap, ◌∙◌, subst}
+use Rattle.std.proofs.Common.{inr, ℕ, zero, suc, List, [], ◌∷◌, map, length, sym, ap, ◌∙◌, subst}
 use Rattle.std.specs.List.{AllByRecursion}
 use Rattle.std.proofs.lemmas.List.{length-map}
-use Rattle.exact_numbers.specs.Frac.{Frac}
 use Rattle.exact_numbers.specs.Fraction.{frac_of}
 use Rattle.exact_numbers.specs.Limit.{InLimit}
 use Rattle.exact_numbers.specs.declared.fraction.Fraction.{Fraction}
@@ -18,7 +17,7 @@ use Rattle.sentence_answers.specs.Decided.{Decides}
 use Rattle.sentence_answers.specs.declared.verdict.Verdict.{Verdict}
 use Rattle.sentence_answers.specs.declared.verdict.Verdict.TheVariants as verdict
 use Rattle.smt_runs.specs.Checks.{Checks, sat, sat_alone, unsat, unknown}
-use Rattle.smt_runs.specs.Sentence.{resolved_sentence, Holds}
+use Rattle.smt_runs.specs.Sentence.{Holds}
 use Rattle.smt_runs.specs.State.{State}
 use Rattle.smt_sentences.specs.Resolved.{asserted_tree, IsSentenceMade, IsSentenceMeant}
 use Rattle.smtlib_front.specs.Represents.{kept_of}

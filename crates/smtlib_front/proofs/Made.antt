@@ -1,6 +1,5 @@
 -- What is made of the formulas that are kept is the sentence of the state.
-use Rattle.std.proofs.Common.{◌≡◌, ◌≤◌, ◌<◌, inl, inr, ℕ, List, [], Some, Vec, Global, map, length, refl, sym, ap, ◌∙◌, subst, arith}
-use Rattle.formula_meaning.specs.Context.{Context}
+use Rattle.std.proofs.Common.{◌≡◌, ◌≤◌, ◌<◌, inr, ℕ, List, [], Some, Vec, Global, map, length, sym, ap, ◌∙◌, subst, arith}
 use Rattle.formula_meaning.specs.Every.{Every}
 use Rattle.formula_meaning.specs.Sizes.{height}
 use Rattle.formula_meaning.specs.Tree.{Tree, IsFree}
@@ -21,7 +20,7 @@ use Rattle.smt_runs.specs.Sentence.{sentence, resolved_sentence}
 use Rattle.smt_runs.specs.Replies.{checks}
 use Rattle.smt_runs.specs.declared.error.SmtError.TheVariants as error
 use Rattle.smt_runs.specs.declared.reply.SmtReply.TheVariants as reply
-use Rattle.smt_sentences.specs.Resolved.{conjunction, numbered, asserted_tree, AreResolvable, IsSentenceMade, IsSentenceMeant}
+use Rattle.smt_sentences.specs.Resolved.{conjunction, asserted_tree, AreResolvable, IsSentenceMade, IsSentenceMeant}
 use Rattle.smt_sentences.proofs.Made.{sentence_is_made}
 use Rattle.smt_sentences.proofs.Meant.{sentence_is_meant}
 use Rattle.smtlib_front.specs.Seen.{Seen, HasValueForEach}

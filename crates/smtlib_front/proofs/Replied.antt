@@ -1,5 +1,5 @@
 -- What a command is answered with, from what becomes of it.
-use Rattle.std.proofs.Common.{◌≡◌, ◌⊎◌, inl, inr, ℕ, List, Bool, true, false, Option, Some, None, Result, Ok, Err, refl, sym, ap, ◌∙◌, subst}
+use Rattle.std.proofs.Common.{◌≡◌, ◌⊎◌, inl, inr, ℕ, List, Bool, true, false, Option, Some, None, Result, Ok, Err, refl, sym, ap, subst}
 use Rattle.std.specs.Prelude.{is_some, is_none, option_map, ◌&&◌}
 use Rattle.linear_forms.specs.declared.form.VarId.{VarId}
 use Rattle.smt_syntax.specs.Trees.{CommandTree}

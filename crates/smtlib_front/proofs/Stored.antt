@@ -1,15 +1,15 @@
 -- Formulas that ids stand for, while the formulas of the store change.
-use Rattle.std.proofs.Common.{◌≡◌, ℕ, ◌≤◌, List, [], ◌∷◌, ◌++◌, map, length, refl, sym, ap, ap₂, ◌∙◌, subst}
+use Rattle.std.proofs.Common.{◌≡◌, ℕ, ◌≤◌, List, [], ◌∷◌, ◌++◌, map, refl, ap₂, ◌∙◌}
 use Rattle.std.specs.List.{AllByRecursion}
 use Rattle.formula_meaning.specs.Context.{Context}
 use Rattle.formula_meaning.specs.Tree.{Tree}
 use Rattle.qe_syntax.specs.Trees.{FormulaTree}
 use Rattle.formula_tree.specs.declared.shape.Shape.{Shape}
-use Rattle.formula_tree.specs.Makers.{IsMade, AreMade, Keeps}
-use Rattle.formula_tree.specs.Resolving.{formula_variables, resolve}
+use Rattle.formula_tree.specs.Makers.{Keeps}
+use Rattle.formula_tree.specs.Resolving.{formula_variables}
 use Rattle.formula_store.specs.declared.id.FormulaId.{FormulaId}
 use Rattle.formula_store.specs.Nodes.{tree, IsId}
-use Rattle.smt_meaning.specs.Levels.{levels, AreLevelsBelow}
+use Rattle.smt_meaning.specs.Levels.{AreLevelsBelow}
 use Rattle.smt_runs.specs.State.{State}
 use Rattle.smt_sentences.specs.Resolvable.{IsResolvable}
 use Rattle.smt_sentences.specs.Resolved.{numbered, sentence_levels}

@@ -1,4 +1,4 @@
-use Rattle.std.proofs.Common.{◌≡◌, ◌<◌, ◌≤◌, arith}
+use Rattle.std.proofs.Common.{arith}
 use Rattle.formula_store.proofs.Makes.{keeps_then}
 use Rattle.smtlib_front.proofs.Under.{under_none, under_one, under_all}
 use Rattle.smtlib_front.proofs.sentences.sentence_of.Goals as goal

@@ -1,4 +1,4 @@
-use Rattle.std.proofs.Common.{rules, ◌≡◌, ℕ, ◌<◌, ◌≤◌, List, map, length, Bool, Option, Some, None, true, false, not, sym, ap, ◌∙◌, subst}
+use Rattle.std.proofs.Common.{rules, ◌≡◌, ℕ, ◌<◌, ◌≤◌, List, map, length, Bool, Option, Some, None, false, not, sym, ap, ◌∙◌, subst}
 use Rattle.std.specs.Prelude.{is_some}
 use Rattle.exact_numbers.specs.Fraction.{frac_of}
 use Rattle.exact_numbers.specs.declared.fraction.Fraction.{Fraction}
@@ -14,7 +14,6 @@ use Rattle.smtlib_front.specs.contracts.smt.Smt.{the_view}
 use Rattle.smtlib_front.specs.Represents.{Represents, kept_of}
 use Rattle.smtlib_front.specs.Seen.{Seen, HasValueForEach}
 use Rattle.smtlib_front.specs.Steps.{IsAnswered, IsRefused}
-use Rattle.smtlib_front.specs.declared.kept.Kept.{Kept}
 use Rattle.smtlib_front.specs.declared.kept.Kept.TheVariants as kept
 use Rattle.smtlib_front.proofs.Answered.{undeclared_refused, large_refused, long_refused, values_answered}
 use Rattle.smtlib_front.proofs.Replied.{some_is}
