@@ -126,9 +126,31 @@ module _ (s : State) (limit : ℕ) where
               let m = in_theory o in h (subst (λ g. Applies c [] (assertion_levels s.declared e) g cause) (same_formula m.f m.formula.formula) m.first.applies)
 
           pub assertion_accepted : HasNoCause c [] (assertion_levels s.declared e) f → IsAccepted s limit (Assert e)
-          assertion_accepted a =
-              (chosen, (never, (known means.known, (meant, (small, (unmet static.Nonlinear a.linear, (unmet static.Division a.undivided, (neither (unmet static.Depth a.flat) never,
-              (neither (unmet static.Overflow a.within) never, (never, tt))))))))))
+          assertion_accepted a = (
+            chosen,
+            (
+              never,
+              (
+                known means.known,
+                (
+                  meant,
+                  (
+                    small,
+                    (
+                      unmet static.Nonlinear a.linear,
+                      (
+                        unmet static.Division a.undivided,
+                        (
+                          neither (unmet static.Depth a.flat) never,
+                          (neither (unmet static.Overflow a.within) never, (never, tt)),
+                        ),
+                      ),
+                    ),
+                  ),
+                ),
+              ),
+            ),
+          )
 
       pub nonlinear_first : MeetsFirst c limit s.declared e static.Nonlinear → IsFirst s limit error.Nonlinear (Assert e)
       nonlinear_first h = record {
@@ -139,23 +161,70 @@ module _ (s : State) (limit : ℕ) where
       pub division_first : MeetsFirst c limit s.declared e static.Division → IsFirst s limit error.Division (Assert e)
       division_first h = record {
         applies = (c, l, h);
-        first = (chosen, (never, (known h.formula.formula.known, (meant h.f h.formula.formula, (small h.f h.formula.formula h.formula.nodes,
-            (unmet h.f h.formula.formula h.formula.nodes static.Nonlinear h.first.first.1.1.0, tt))))));
+        first = (
+          chosen,
+          (
+            never,
+            (
+              known h.formula.formula.known,
+              (
+                meant h.f h.formula.formula,
+                (
+                  small h.f h.formula.formula h.formula.nodes,
+                  (unmet h.f h.formula.formula h.formula.nodes static.Nonlinear h.first.first.1.1.0, tt),
+                ),
+              ),
+            ),
+          ),
+        );
       }
 
       pub depth_first : MeetsFirst c limit s.declared e static.Depth → IsFirst s limit error.Depth (Assert e)
       depth_first h = record {
         applies = inl (c, l, h);
-        first = (chosen, (never, (known h.formula.formula.known, (meant h.f h.formula.formula, (small h.f h.formula.formula h.formula.nodes,
-            (unmet h.f h.formula.formula h.formula.nodes static.Nonlinear h.first.first.1.1.0, (unmet h.f h.formula.formula h.formula.nodes static.Division h.first.first.1.1.1.0, tt)))))));
+        first = (
+          chosen,
+          (
+            never,
+            (
+              known h.formula.formula.known,
+              (
+                meant h.f h.formula.formula,
+                (
+                  small h.f h.formula.formula h.formula.nodes,
+                  (unmet h.f h.formula.formula h.formula.nodes static.Nonlinear h.first.first.1.1.0, (unmet h.f h.formula.formula h.formula.nodes static.Division h.first.first.1.1.1.0, tt)),
+                ),
+              ),
+            ),
+          ),
+        );
       }
 
       pub overflow_first : MeetsFirst c limit s.declared e static.Overflow → IsFirst s limit error.Overflow (Assert e)
       overflow_first h = record {
         applies = inl (c, l, h);
-        first = (chosen, (never, (known h.formula.formula.known, (meant h.f h.formula.formula, (small h.f h.formula.formula h.formula.nodes,
-            (unmet h.f h.formula.formula h.formula.nodes static.Nonlinear h.first.first.1.1.0, (unmet h.f h.formula.formula h.formula.nodes static.Division h.first.first.1.1.1.0,
-            (neither (unmet h.f h.formula.formula h.formula.nodes static.Depth h.first.first.1.1.1.1.1.1.0) never, tt))))))));
+        first = (
+          chosen,
+          (
+            never,
+            (
+              known h.formula.formula.known,
+              (
+                meant h.f h.formula.formula,
+                (
+                  small h.f h.formula.formula h.formula.nodes,
+                  (
+                    unmet h.f h.formula.formula h.formula.nodes static.Nonlinear h.first.first.1.1.0,
+                    (
+                      unmet h.f h.formula.formula h.formula.nodes static.Division h.first.first.1.1.1.0,
+                      (neither (unmet h.f h.formula.formula h.formula.nodes static.Depth h.first.first.1.1.1.1.1.1.0) never, tt),
+                    ),
+                  ),
+                ),
+              ),
+            ),
+          ),
+        );
       }
 
       -- an assertion that is refused is refused for its first cause

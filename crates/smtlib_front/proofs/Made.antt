@@ -46,9 +46,10 @@ module _ (m : Seen) (s : State) (limit : ℕ) (r : Represents m s) (t : Theory) 
   joined_is = ap conjunction (stored_trees (context_of t) (length s.declared) m.formulas s s.asserted m.asserted (stored m s r (context_of t) in_logic) made.below)
 
   -- the id is what is asserted, joined, under `ex` of the declared names
-  module _ (nodes : List (Shape FormulaId)) (id : FormulaId) (count : ℕ) (known : count ≡ length m.declared) (h : IsMade (IsId nodes) (tree nodes) id (under_names 0 count (conjunction (map (tree m.formulas) m.asserted)))) where
+  module _ (nodes : List (Shape FormulaId)) (id : FormulaId) (count : ℕ) (known : count ≡ length m.declared) (ids : List FormulaId) (given : ids ≡ m.asserted)
+      (h : IsMade (IsId nodes) (tree nodes) id (under_names 0 count (conjunction (map (tree m.formulas) ids)))) where
     under_declared : tree nodes id ≡ under_names 0 count (asserted_tree (context_of t) s)
-    under_declared = h.same ∙ ap (under_names 0 count) joined_is
+    under_declared = h.same ∙ ap (λ js. under_names 0 count (conjunction (map (tree m.formulas) js))) given ∙ ap (under_names 0 count) joined_is
 
     counted : count ≡ length s.declared
     counted = known ∙ ap length r.declared

@@ -32,11 +32,7 @@ pub(crate) fn sentence_of(
 }
 
 /// The formulas joined by `and`: one alone stands for itself, and none is true.
-fn joined(
-    alloc: Global,
-    store: &mut Store,
-    asserted: &[FormulaId],
-) -> Result<FormulaId, AllocError>
+fn joined(alloc: Global, store: &mut Store, asserted: &[FormulaId]) -> Result<FormulaId, AllocError>
     requires { AllByRecursion (IsId store.old) asserted.now }
     ensures made { IfOk result (λ id. IsMade (IsId store.new) (tree store.new) id (conjunction (map (tree store.old) asserted.now))) }
     ensures kept { Keeps (IsId store.old) (tree store.old) (IsId store.new) (tree store.new) }

@@ -6,14 +6,12 @@ use Rattle.smtlib_front.specs.Steps.{IsAnswered}
 use Rattle.smtlib_front.proofs.Causes.{ignored_accepted, exit_accepted}
 use Rattle.smtlib_front.proofs.smt.Smt.answer.Goals as goal
 
--- src/smt.rt:79:5
 pub returns-in-Ignored-clause-does : goal.returns-in-Ignored-clause-does
 returns-in-Ignored-clause-does g c = λ s r.
     subst (λ k. IsAnswered s c.args.self.now.limits.nodes (command_tree k) reply.Nothing c.args.self.now) (sym c.in-Ignored.is)
-        (record { next = s; accepted = ignored_accepted s c.args.self.now.limits.nodes; answers = ignores; represents = r })
+    (record { next = s; accepted = ignored_accepted s c.args.self.now.limits.nodes; answers = ignores; represents = r })
 
--- src/smt.rt:79:5
 pub returns-in-Exit-clause-does : goal.returns-in-Exit-clause-does
 returns-in-Exit-clause-does g c = λ s r.
     subst (λ k. IsAnswered s c.args.self.now.limits.nodes (command_tree k) reply.Finished c.args.self.now) (sym c.in-Exit.is)
-        (record { next = s; accepted = exit_accepted s c.args.self.now.limits.nodes; answers = exits; represents = r })
+    (record { next = s; accepted = exit_accepted s c.args.self.now.limits.nodes; answers = exits; represents = r })

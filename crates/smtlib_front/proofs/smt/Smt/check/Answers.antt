@@ -1,14 +1,11 @@
-use Rattle.std.proofs.Common.{rules, ◌≡◌, inl, map, Err, length, refl, sym, ap, ◌∙◌, subst}
+use Rattle.std.proofs.Common.{rules, ◌≡◌, inl, Err, length, refl, sym, ap, ◌∙◌, subst}
 use Rattle.std.specs.List.{AllByRecursion}
-use Rattle.formula_tree.specs.Makers.{IsMade}
-use Rattle.formula_store.specs.Nodes.{IsId, tree}
+use Rattle.formula_store.specs.Nodes.{IsId}
 use Rattle.formula_store.proofs.Makes.{keeps_then}
-use Rattle.sentence_theory.specs.Leading.{under_names}
 use Rattle.smt_syntax.specs.Trees.{Check}
 use Rattle.smt_runs.specs.State.{State}
 use Rattle.smt_runs.specs.declared.error.SmtError.TheVariants as error
 use Rattle.smt_runs.specs.declared.reply.SmtReply.TheVariants as reply
-use Rattle.smt_sentences.specs.Resolved.{conjunction}
 use Rattle.smtlib_front.specs.contracts.smt.Smt.{the_view}
 use Rattle.smtlib_front.specs.Represents.{Represents}
 use Rattle.smtlib_front.specs.Seen.{Seen, HasValueForEach}
@@ -34,17 +31,16 @@ returns-in_err-sentence-clause-does g c =
     let next : Seen = the_view (record c.self.inside { store = c.sentence_of.new.store }) in
     let told : c.from_residual.result ≡ Err error.Memory = search rules in
     subst (λ v. (s : State) → Represents v s → Does s v.limits.nodes Check c.from_residual.result next) c.self.view_is
-        (λ s r. subst (λ q. Does s m.limits.nodes Check q next) (sym told) (memory_refused m s m.limits.nodes r Check c.sentence_of.new.store m.asserted c.sentence_of.ensures.kept refl))
+    (λ s r. subst (λ q. Does s m.limits.nodes Check q next) (sym told) (memory_refused m s m.limits.nodes r Check c.sentence_of.new.store m.asserted c.sentence_of.ensures.kept refl))
 
 -- src/checks.rt:39:9
 pub returns-then-facts-gt-MOST_HEIGHT-clause-does : goal.returns-then-facts-gt-MOST_HEIGHT-clause-does
 returns-then-facts-gt-MOST_HEIGHT-clause-does g c =
     let m : Seen = the_view c.self.inside in
     let next : Seen = the_view (record c.self.inside { store = c.sentence_of.new.store }) in
-    let joined = subst (λ ids. IsMade (IsId c.sentence_of.new.store) (tree c.sentence_of.new.store) c.in_ok-sentence.sentence (under_names 0 c.count-count.result (conjunction (map (tree m.formulas) ids)))) c.deref.ensures.value c.in_ok-sentence.ensures.made in
     subst (λ v. (s : State) → Represents v s → IsRefused s v.limits.nodes Check error.Depth next) c.self.view_is
-        (λ s r. depth_refused m s m.limits.nodes r c.in-Some.context c.in-Some.is c.sentence_of.new.store c.in_ok-sentence.sentence c.count-count.result c.count-count.ensures joined
-            c.facts.result.height c.facts.ensures.facts.height_is c.if-facts-gt-MOST_HEIGHT.true c.sentence_of.ensures.kept)
+    (λ s r. depth_refused m s m.limits.nodes r c.in-Some.context c.in-Some.is c.sentence_of.new.store c.in_ok-sentence.sentence c.count-count.result c.count-count.ensures c.deref.result.now c.deref.ensures.value c.in_ok-sentence.ensures.made
+    c.facts.result.height c.facts.ensures.facts.height_is c.if-facts-gt-MOST_HEIGHT.true c.sentence_of.ensures.kept)
 
 -- src/checks.rt:49:23
 pub decided-requires-clause-normal : goal.decided-requires-clause-normal
@@ -52,9 +48,8 @@ decided-requires-clause-normal g c κs within =
     let m : Seen = the_view c.self.inside in
     let s : State = c.requires.state.0 in
     let r : Represents m s = subst (λ v. Represents v s) (sym c.self.view_is) c.requires.state.1 in
-    let joined = subst (λ ids. IsMade (IsId c.sentence_of.new.store) (tree c.sentence_of.new.store) c.in_ok-sentence.sentence (under_names 0 c.count-count.result (conjunction (map (tree m.formulas) ids)))) c.deref.ensures.value c.in_ok-sentence.ensures.made in
-    sentence_normal m s m.limits.nodes r c.in-Some.context c.in-Some.is c.sentence_of.new.store c.in_ok-sentence.sentence c.count-count.result c.count-count.ensures joined
-        c.facts.result.height c.facts.ensures.facts.height_is c.if-facts-gt-MOST_HEIGHT.false
+    sentence_normal m s m.limits.nodes r c.in-Some.context c.in-Some.is c.sentence_of.new.store c.in_ok-sentence.sentence c.count-count.result c.count-count.ensures c.deref.result.now c.deref.ensures.value c.in_ok-sentence.ensures.made
+    c.facts.result.height c.facts.ensures.facts.height_is c.if-facts-gt-MOST_HEIGHT.false
 
 -- src/checks.rt:49:23
 pub decided-requires-clause-closed : goal.decided-requires-clause-closed
@@ -62,9 +57,8 @@ decided-requires-clause-closed g c κs within =
     let m : Seen = the_view c.self.inside in
     let s : State = c.requires.state.0 in
     let r : Represents m s = subst (λ v. Represents v s) (sym c.self.view_is) c.requires.state.1 in
-    let joined = subst (λ ids. IsMade (IsId c.sentence_of.new.store) (tree c.sentence_of.new.store) c.in_ok-sentence.sentence (under_names 0 c.count-count.result (conjunction (map (tree m.formulas) ids)))) c.deref.ensures.value c.in_ok-sentence.ensures.made in
-    sentence_closed m s m.limits.nodes r c.in-Some.context c.in-Some.is c.sentence_of.new.store c.in_ok-sentence.sentence c.count-count.result c.count-count.ensures joined
-        c.facts.result.height c.facts.ensures.facts.height_is c.if-facts-gt-MOST_HEIGHT.false
+    sentence_closed m s m.limits.nodes r c.in-Some.context c.in-Some.is c.sentence_of.new.store c.in_ok-sentence.sentence c.count-count.result c.count-count.ensures c.deref.result.now c.deref.ensures.value c.in_ok-sentence.ensures.made
+    c.facts.result.height c.facts.ensures.facts.height_is c.if-facts-gt-MOST_HEIGHT.false
 
 -- src/checks.rt:49:23
 pub returns-in_err-verdict-clause-does : goal.returns-in_err-verdict-clause-does
@@ -74,7 +68,7 @@ returns-in_err-verdict-clause-does g c =
     let keeps = keeps_then m.formulas c.sentence_of.new.store c.decided.new.store c.sentence_of.ensures.kept c.decided.ensures.kept in
     let told : c.from_residual-in_err-verdict.result ≡ Err error.Memory = search rules in
     subst (λ v. (s : State) → Represents v s → Does s v.limits.nodes Check c.from_residual-in_err-verdict.result next) c.self.view_is
-        (λ s r. subst (λ q. Does s m.limits.nodes Check q next) (sym told) (memory_refused m s m.limits.nodes r Check c.decided.new.store m.asserted keeps refl))
+    (λ s r. subst (λ q. Does s m.limits.nodes Check q next) (sym told) (memory_refused m s m.limits.nodes r Check c.decided.new.store m.asserted keeps refl))
 
 -- src/checks.rt:50:20
 pub returns-in_err-line-clause-does : goal.returns-in_err-line-clause-does
@@ -84,7 +78,7 @@ returns-in_err-line-clause-does g c =
     let keeps = keeps_then m.formulas c.sentence_of.new.store c.decided.new.store c.sentence_of.ensures.kept c.decided.ensures.kept in
     let told : c.from_residual-in_err-line.result ≡ Err error.Memory = search rules in
     subst (λ v. (s : State) → Represents v s → Does s v.limits.nodes Check c.from_residual-in_err-line.result next) c.self.view_is
-        (λ s r. subst (λ q. Does s m.limits.nodes Check q next) (sym told) (memory_refused m s m.limits.nodes r Check c.decided.new.store m.asserted keeps refl))
+    (λ s r. subst (λ q. Does s m.limits.nodes Check q next) (sym told) (memory_refused m s m.limits.nodes r Check c.decided.new.store m.asserted keeps refl))
 
 -- src/checks.rt:51:9
 pub tidy-requires : goal.tidy-requires
@@ -101,7 +95,7 @@ returns-in_err-tidy-clause-does g c =
     let keeps = keeps_then m.formulas c.sentence_of.new.store c.decided.new.store c.sentence_of.ensures.kept c.decided.ensures.kept in
     let told : c.from_residual-in_err-tidy.result ≡ Err error.Memory = search rules in
     subst (λ v. (s : State) → Represents v s → Does s v.limits.nodes Check c.from_residual-in_err-tidy.result c.tidy.new.self) c.self.view_is
-        (λ s r. subst (λ q. Does s m.limits.nodes Check q c.tidy.new.self) (sym told) (record { cause = inl refl; represents = c.tidy.ensures.state s (grown_state m s r c.decided.new.store keeps) }))
+    (λ s r. subst (λ q. Does s m.limits.nodes Check q c.tidy.new.self) (sym told) (record { cause = inl refl; represents = c.tidy.ensures.state s (grown_state m s r c.decided.new.store keeps) }))
 
 -- src/checks.rt:52:9
 pub invariant_of-self-3 : goal.invariant_of-self-3
@@ -109,9 +103,8 @@ invariant_of-self-3 g c =
     let m : Seen = the_view c.self.inside in
     let s : State = c.requires.state.0 in
     let r : Represents m s = subst (λ v. Represents v s) (sym c.self.view_is) c.requires.state.1 in
-    let joined = subst (λ ids. IsMade (IsId c.sentence_of.new.store) (tree c.sentence_of.new.store) c.in_ok-sentence.sentence (under_names 0 c.count-count.result (conjunction (map (tree m.formulas) ids)))) c.deref.ensures.value c.in_ok-sentence.ensures.made in
-    let counted = sentence_counted m s m.limits.nodes r c.in-Some.context c.in-Some.is c.sentence_of.new.store c.in_ok-sentence.sentence c.count-count.result c.count-count.ensures joined
-        c.facts.result.height c.facts.ensures.facts.height_is c.if-facts-gt-MOST_HEIGHT.false c.in_ok-verdict.verdict c.in_ok-verdict.ensures.verdict in
+    let counted = sentence_counted m s m.limits.nodes r c.in-Some.context c.in-Some.is c.sentence_of.new.store c.in_ok-sentence.sentence c.count-count.result c.count-count.ensures c.deref.result.now c.deref.ensures.value c.in_ok-sentence.ensures.made
+    c.facts.result.height c.facts.ensures.facts.height_is c.if-facts-gt-MOST_HEIGHT.false c.in_ok-verdict.verdict c.in_ok-verdict.ensures.verdict in
     let same : c.self-2.inside.declared ≡ m.declared = ap (λ v. v.declared) c.self-2.view_is ∙ c.tidy.ensures.declared in
     (c.self-2.invariant.0, subst (HasValueForEach (length c.self-2.inside.declared)) (sym c.kept_by.ensures) (subst (λ ns. HasValueForEach (length ns) (kept_by c.in_ok-verdict.verdict)) (sym same) counted))
 
@@ -121,11 +114,10 @@ returns-clause-does g c =
     let m : Seen = the_view c.self.inside in
     let after : Seen = the_view c.self-2.inside in
     let next : Seen = the_view (record c.self-2.inside { kept = c.kept_by.result }) in
-    let joined = subst (λ ids. IsMade (IsId c.sentence_of.new.store) (tree c.sentence_of.new.store) c.in_ok-sentence.sentence (under_names 0 c.count-count.result (conjunction (map (tree m.formulas) ids)))) c.deref.ensures.value c.in_ok-sentence.ensures.made in
     let keeps = keeps_then m.formulas c.sentence_of.new.store c.decided.new.store c.sentence_of.ensures.kept c.decided.ensures.kept in
     subst (λ v. (s : State) → Represents v s → IsAnswered s v.limits.nodes Check (reply.Printed c.in_ok-line.line) next) c.self.view_is
-        (λ s r.
-            let left : Represents after s = subst (λ v. Represents v s) (sym c.self-2.view_is) (c.tidy.ensures.state s (grown_state m s r c.decided.new.store keeps)) in
-            subst (λ k. IsAnswered s m.limits.nodes Check (reply.Printed c.in_ok-line.line) (record after { kept = k })) (sym c.kept_by.ensures)
-                (check_answered m s m.limits.nodes r c.in-Some.context c.in-Some.is c.sentence_of.new.store c.in_ok-sentence.sentence c.count-count.result c.count-count.ensures joined
-                    c.facts.result.height c.facts.ensures.facts.height_is c.if-facts-gt-MOST_HEIGHT.false c.in_ok-verdict.verdict c.in_ok-verdict.ensures.verdict after left c.in_ok-line.line c.in_ok-line.ensures))
+    (λ s r.
+    let left : Represents after s = subst (λ v. Represents v s) (sym c.self-2.view_is) (c.tidy.ensures.state s (grown_state m s r c.decided.new.store keeps)) in
+    subst (λ k. IsAnswered s m.limits.nodes Check (reply.Printed c.in_ok-line.line) (record after { kept = k })) (sym c.kept_by.ensures)
+    (check_answered m s m.limits.nodes r c.in-Some.context c.in-Some.is c.sentence_of.new.store c.in_ok-sentence.sentence c.count-count.result c.count-count.ensures c.deref.result.now c.deref.ensures.value c.in_ok-sentence.ensures.made
+    c.facts.result.height c.facts.ensures.facts.height_is c.if-facts-gt-MOST_HEIGHT.false c.in_ok-verdict.verdict c.in_ok-verdict.ensures.verdict after left c.in_ok-line.line c.in_ok-line.ensures))
