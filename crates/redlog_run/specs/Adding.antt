@@ -1,6 +1,5 @@
 -- What one piece adds to the lines before it.
 use Rattle.std.specs.Prelude.{◌≡◌, ℕ, List, ◌++◌, Bool, ◌||◌}
-use Rattle.session_meaning.specs.declared.line.StatementError.TheVariants as error
 use Rattle.session_meaning.specs.State.{State}
 use Rattle.redlog_run.specs.Run.{AnswersPiece}
 

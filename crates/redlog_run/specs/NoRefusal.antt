@@ -1,6 +1,5 @@
 -- A script in which nothing has a cause of a refusal is answered without one.
 use Rattle.std.specs.Prelude.{ℕ, List, true}
-use Rattle.session_meaning.specs.declared.line.StatementError.TheVariants as error
 use Rattle.redlog_run.specs.Run.{RunOf}
 use Rattle.redlog_run.specs.Unrefused.{IsUnrefused}
 

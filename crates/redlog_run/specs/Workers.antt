@@ -1,7 +1,6 @@
 -- How many threads may work.
 use Rattle.std.specs.Prelude.{ℕ, unwrap_or}
 use Rattle.command_words.specs.declared.options.Options.{Options}
-use Rattle.redlog_run.specs.declared.status.Status.TheVariants as status
 
 -- by how many threads at most it works on an elimination
 abbrev pub worker_limit : Options → ℕ
