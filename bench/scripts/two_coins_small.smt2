@@ -1,3 +1,3 @@
-(set-logic ALL)
+(set-logic LIA)
 (assert (forall ((n Int)) (=> (>= n 2) (exists ((x1 Int) (x2 Int)) (and (>= x1 0) (>= x2 0) (= n (+ (* 2 x1) (* 3 x2))))))))
 (check-sat)
