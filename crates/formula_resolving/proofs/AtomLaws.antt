@@ -23,7 +23,7 @@ use Rattle.formula_resolving.specs.declared.error.StaticError.{StaticError}
 use Rattle.formula_resolving.specs.declared.error.StaticError.TheVariants.{Unbound, FormulaAsTerm, Nonlinear, Division, CongruenceContext, Modulus, Depth, Overflow, Memory}
 use Rattle.formula_resolving.specs.declared.causes.Causes.{Causes}
 use Rattle.formula_resolving.specs.declared.parts.Part.{Part}
-use Rattle.formula_resolving.specs.Refusals.{AreIds, trees_bound}
+use Rattle.formula_resolving.specs.BoundIds.{AreIds, trees_bound}
 use Rattle.formula_resolving.specs.MetCauses.{flag, no_causes, IsRefused, CongruenceIn, StandsIn, is_fields, atom_causes}
 use Rattle.formula_resolving.specs.Heights.{told}
 use Rattle.formula_resolving.specs.Connectives.{normal_shape}

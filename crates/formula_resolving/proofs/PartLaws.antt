@@ -35,7 +35,7 @@ use Rattle.formula_resolving.specs.MetCauses.{flag, either, IsRefused, StandsIn}
 use Rattle.formula_resolving.specs.Heights.{told, over}
 use Rattle.formula_resolving.specs.Parts.{AreTold, IsPart, AreMembers, IsFinished}
 use Rattle.formula_resolving.specs.Connectives.{joined_shape, pair_shape, opening_shape, negated_shape, paired, quantified_shape}
-use Rattle.formula_resolving.specs.Refusals.{AreIds, trees_bound}
+use Rattle.formula_resolving.specs.BoundIds.{AreIds, trees_bound}
 use Rattle.formula_resolving.proofs.FirstCause.{flag_either, or_true}
 
 pub some_same : {X : Type 0} {a b : X} → Some a ≡ Some b → a ≡ b

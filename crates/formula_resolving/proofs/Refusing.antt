@@ -20,7 +20,9 @@ use Rattle.formula_tree.specs.NamesAfter.{names_after}
 use Rattle.formula_resolving.specs.declared.error.StaticError.{StaticError}
 use Rattle.formula_resolving.specs.declared.error.StaticError.TheVariants.{Unbound, FormulaAsTerm, Nonlinear, Division, CongruenceContext, Modulus, Depth, Overflow, Memory}
 use Rattle.formula_resolving.specs.declared.causes.Causes.{Causes}
-use Rattle.formula_resolving.specs.Refusals.{before, Applies, IsFirst, IsFirstCause, trees_bound}
+use Rattle.formula_resolving.specs.Refusals.{before, Applies, IsFirst}
+use Rattle.formula_resolving.specs.FirstCause.{IsFirstCause}
+use Rattle.formula_resolving.specs.BoundIds.{trees_bound}
 use Rattle.formula_resolving.specs.Numbering.{some_bound}
 use Rattle.formula_resolving.specs.MetCauses.{is_met, IsFirstOf, CongruenceIn}
 use Rattle.formula_resolving.specs.Heights.{told}

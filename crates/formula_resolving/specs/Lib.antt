@@ -1,4 +1,6 @@
 pub mod Refusals
+pub mod FirstCause
+pub mod BoundIds
 pub mod Numbering
 pub mod MetCauses
 pub mod Heights

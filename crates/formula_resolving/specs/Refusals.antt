@@ -1,23 +1,13 @@
 -- Why a formula is not resolved: the first cause that applies.
-use Rattle.std.specs.Prelude.{ℕ, List, [], ◌∷◌, map}
-use Rattle.std.specs.List.{AllByRecursion}
+use Rattle.std.specs.Prelude.{ℕ, List, [], ◌∷◌}
 use Rattle.formula_meaning.specs.Context.{Context}
 use Rattle.formula_meaning.specs.Some.{EachOf}
-use Rattle.formula_meaning.specs.Tree.{Tree}
 use Rattle.qe_syntax.specs.Trees.{FormulaTree}
 use Rattle.formula_tree.specs.Resolving.{BoundTrees, place}
 use Rattle.formula_tree.specs.NamesAfter.{names_after}
 use Rattle.formula_tree.specs.Causes as cause
 use Rattle.formula_resolving.specs.declared.error.StaticError.{StaticError}
 use Rattle.formula_resolving.specs.declared.error.StaticError.TheVariants.{Unbound, FormulaAsTerm, Nonlinear, Division, CongruenceContext, Modulus, Depth, Overflow, Memory}
-
--- what is bound are ids
-abbrev pub AreIds : {Id : Type 0} → (Id → Type 0) → List (List ℕ × Id) → Type 0
-AreIds is_id bound = AllByRecursion (λ e. is_id e.1) bound
-
--- the trees of what is bound
-abbrev pub trees_bound : {Id : Type 0} → (Id → Tree) → List (List ℕ × Id) → BoundTrees
-trees_bound tree bound = map (λ e. (e.0, tree e.1)) bound
 
 -- The order in which the causes are looked for. Want of memory has no place: it may come at any time.
 abbrev pub order : List StaticError
@@ -51,8 +41,3 @@ Applies c bound names f Memory = Unit {0}
 pub record IsFirst (c : Context) (bound : BoundTrees) (names : List (List ℕ)) (f : FormulaTree) (e : StaticError) : Type 0 where
   pub applies : Applies c bound names f e
   pub first : EachOf (λ d. ¬ (Applies c bound names f d)) (before e)
-
--- the same, where want of memory says nothing
-abbrev pub IsFirstCause : Context → BoundTrees → List (List ℕ) → FormulaTree → StaticError → Type 0
-IsFirstCause c bound names f Memory = Unit {0}
-IsFirstCause c bound names f e = IsFirst c bound names f e

@@ -4,7 +4,7 @@ ghost use Rattle.std.specs.Prelude.{◌≡◌, ◌++◌, [], max, Some, IfOk, On
 ghost use Rattle.std.specs.Option.{option_to_list, ForSome};
 ghost use Rattle.atom_normal.specs.Atoms.{context_of, IsWellFormedNormal};
 ghost use Rattle.formula_tree.specs.Makers.{Keeps};
-ghost use Rattle.formula_resolving.specs.Refusals.{AreIds, trees_bound};
+ghost use Rattle.formula_resolving.specs.BoundIds.{AreIds, trees_bound};
 ghost use Rattle.formula_tree.specs.Shapes.{AllIds, IsProperShape};
 ghost use Rattle.formula_resolving.specs.Parts.{IsFinished, IsNamePart};
 ghost use Rattle.formula_resolving.specs.MetCauses.{atom_causes, either, is_fields, no_causes};

@@ -7,7 +7,8 @@ ghost use Rattle.formula_tree.specs.Makers.{IsMade, Keeps};
 ghost use Rattle.formula_tree.specs.Resolving.{resolve};
 ghost use Rattle.formula_tree.specs.NamesAfter.{names_after};
 ghost use Rattle.formula_resolving.specs.Numbering.{Grows};
-ghost use Rattle.formula_resolving.specs.Refusals.{AreIds, trees_bound, IsFirstCause};
+ghost use Rattle.formula_resolving.specs.BoundIds.{AreIds, trees_bound};
+ghost use Rattle.formula_resolving.specs.FirstCause.{IsFirstCause};
 
 use crate::error::StaticError;
 use crate::numbering::number_formula;

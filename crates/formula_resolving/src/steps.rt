@@ -17,7 +17,7 @@ ghost use Rattle.formula_tree.specs.Resolving.{BoundTrees, place};
 ghost use Rattle.formula_resolving.specs.Connectives.{paired};
 ghost use Rattle.formula_resolving.specs.MetCauses.{IsRefused};
 ghost use Rattle.formula_resolving.specs.Parts.{IsPart, IsToldAlone, AreMembers};
-ghost use Rattle.formula_resolving.specs.Refusals.{IsFirstCause};
+ghost use Rattle.formula_resolving.specs.FirstCause.{IsFirstCause};
 
 use crate::causes::{Causes, above};
 use crate::error::StaticError;

@@ -10,7 +10,7 @@ use Rattle.formula_tree.specs.Bindings.{bound_to}
 use Rattle.formula_tree.specs.Causes.{atom_in_place}
 use Rattle.formula_tree.specs.Quantified.{has_quantifier}
 use Rattle.formula_tree.specs.Resolving.{MentionsNumber}
-use Rattle.formula_resolving.specs.Refusals.{trees_bound}
+use Rattle.formula_resolving.specs.BoundIds.{trees_bound}
 use Rattle.formula_resolving.proofs.AtomLaws.{bound_tree}
 use Rattle.free_names.specs.Scopes.{AreAmong, IsIn}
 use Rattle.free_names.specs.Missing.{AreMissing}

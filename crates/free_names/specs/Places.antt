@@ -10,7 +10,7 @@ use Rattle.formula_tree.specs.declared.shape.Shape.{Shape}
 use Rattle.formula_tree.specs.Resolving.{place, IsFreeInPlace, MentionsNumber}
 use Rattle.formula_store.specs.declared.id.FormulaId.{FormulaId}
 use Rattle.formula_store.specs.Nodes.{tree}
-use Rattle.formula_resolving.specs.Refusals.{trees_bound}
+use Rattle.formula_resolving.specs.BoundIds.{trees_bound}
 
 -- the number is free in the formula with the bound formulas of the store in their places
 abbrev pub IsFreeHere : List (Shape FormulaId) → List (List ℕ × FormulaId) → List (List ℕ) → FormulaTree → ℕ → Type 0

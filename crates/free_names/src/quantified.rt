@@ -7,7 +7,7 @@ ghost use Rattle.qe_syntax.specs.CodeTrees.{formula_tree};
 ghost use Rattle.formula_tree.specs.Causes.{atom_in_place};
 ghost use Rattle.formula_tree.specs.Quantified.{has_quantifier, some_quantifier};
 ghost use Rattle.formula_store.specs.Nodes.{tree, IsId};
-ghost use Rattle.formula_resolving.specs.Refusals.{AreIds, trees_bound};
+ghost use Rattle.formula_resolving.specs.BoundIds.{AreIds, trees_bound};
 
 use formula_store::{FormulaId, Store};
 use formula_tree::Bindings;

@@ -13,7 +13,7 @@ ghost use Rattle.qe_syntax.specs.Value.{HasName, HaveName};
 ghost use Rattle.qe_syntax.specs.Valued.{prefix_of, IsUnquantified};
 ghost use Rattle.formula_tree.specs.Resolving.{place, IsFreeInPlace, MentionsNumber};
 ghost use Rattle.formula_store.specs.Nodes.{tree, IsId};
-ghost use Rattle.formula_resolving.specs.Refusals.{AreIds, trees_bound};
+ghost use Rattle.formula_resolving.specs.BoundIds.{AreIds, trees_bound};
 ghost use Rattle.free_names.specs.Entries.{HasEntryAt};
 ghost use Rattle.free_names.specs.Missing.{IsSound};
 ghost use Rattle.free_names.specs.Places.{IsFreeHere, AreFreeHere, in_scope, name_in_scope};

@@ -17,6 +17,7 @@ use Rattle.formula_tree.proofs.PlaceLaws.{after_has}
 use Rattle.formula_resolving.specs.declared.error.StaticError.{StaticError}
 use Rattle.formula_resolving.specs.declared.error.StaticError.TheVariants as static
 use Rattle.formula_resolving.specs.Refusals as reading
+use Rattle.formula_resolving.specs.FirstCause.{IsFirstCause}
 use Rattle.plain_engine.specs.declared.measured.Measured.{Measured}
 use Rattle.plain_engine.specs.declared.measured.Measured.TheVariants as measured
 use Rattle.plain_engine.specs.Told.{StopsWith}
@@ -81,7 +82,7 @@ module _ (old : State) (f : FormulaTree) where
   first_one d h = record { applies = inl (applies_after d h.applies); first = none_after (reading.before d) h.first }
 
   -- the first cause of the formula is the first there
-  pub first_after : (d : StaticError) → d ≢ static.Memory → reading.IsFirstCause old.context old.bound old.names f d → IsFirstAmong after (also f none) d
+  pub first_after : (d : StaticError) → d ≢ static.Memory → IsFirstCause old.context old.bound old.names f d → IsFirstAmong after (also f none) d
   first_after static.Unbound n h = first_one static.Unbound h
   first_after static.FormulaAsTerm n h = first_one static.FormulaAsTerm h
   first_after static.Nonlinear n h = first_one static.Nonlinear h
@@ -209,7 +210,7 @@ module _ (old : State) (written : FormulaTrees) (target : TermTree) (limit : ℕ
   memory Fields = refl
   memory Integers = refl
 
-  first_refuses : (c : Context) → old.context ≡ c → (d : StaticError) → d ≢ static.Memory → reading.IsFirstCause old.context old.bound old.names problem d → cause_of c d ≢ error.Memory → IsRefused (cause_of c d)
+  first_refuses : (c : Context) → old.context ≡ c → (d : StaticError) → d ≢ static.Memory → IsFirstCause old.context old.bound old.names problem d → cause_of c d ≢ error.Memory → IsRefused (cause_of c d)
   first_refuses Fields p d n h other = unread_fields there written target (numbers_after old problem) limit u p d n (first_after old problem d n h) other
   first_refuses Integers p d n h other = unread_integers there written target (numbers_after old problem) limit u p d n (first_after old problem d n h)
 

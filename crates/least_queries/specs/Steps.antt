@@ -7,7 +7,7 @@ use Rattle.formula_store.specs.Nodes.{tree, IsId}
 use Rattle.formula_tree.specs.Makers.{IsMade}
 use Rattle.formula_tree.specs.Resolving.{resolve}
 use Rattle.formula_tree.specs.NamesAfter.{names_after}
-use Rattle.formula_resolving.specs.Refusals.{IsFirstCause}
+use Rattle.formula_resolving.specs.FirstCause.{IsFirstCause}
 use Rattle.problem_reading.specs.FromAnswerTexts.{AreValuesWithin}
 use Rattle.formula_resolving.specs.declared.error.StaticError.{StaticError}
 use Rattle.formula_resolving.specs.declared.error.StaticError.TheVariants as static

@@ -7,7 +7,7 @@ ghost use Rattle.qe_syntax.specs.CodeTrees.{term_tree, formula_tree};
 ghost use Rattle.qe_syntax.specs.Writable.{IsWritableTerm, AreWritableFormulas};
 ghost use Rattle.statement_syntax.specs.ConstraintLists.{AreWeakConstraints};
 ghost use Rattle.statement_syntax.specs.Statements.{Least as LeastOf};
-ghost use Rattle.formula_resolving.specs.Refusals.{AreIds};
+ghost use Rattle.formula_resolving.specs.BoundIds.{AreIds};
 ghost use Rattle.formula_store.specs.Nodes.{IsId};
 ghost use Rattle.problem_reading.specs.FromSessionMeaning.{meaning, numbered, with_names, target_name};
 ghost use Rattle.problem_reading.specs.FromSessionState.{state_of, IsSessionState, GrowsState};

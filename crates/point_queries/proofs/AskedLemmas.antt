@@ -15,7 +15,8 @@ use Rattle.formula_tree.specs.Resolving.{place}
 use Rattle.formula_resolving.specs.declared.error.StaticError.{StaticError}
 use Rattle.formula_resolving.specs.declared.error.StaticError.TheVariants as static
 use Rattle.formula_resolving.specs.Refusals as reading
-use Rattle.formula_resolving.specs.Refusals.{trees_bound}
+use Rattle.formula_resolving.specs.FirstCause.{IsFirstCause}
+use Rattle.formula_resolving.specs.BoundIds.{trees_bound}
 use Rattle.session_meaning.specs.declared.line.StatementError.{StatementError}
 use Rattle.session_meaning.specs.declared.line.StatementError.TheVariants as error
 use Rattle.session_meaning.specs.State.{State}
@@ -205,7 +206,7 @@ module _ (s : State) (f : FormulaTree) (es : List PointEntry) (numbers : HasNumb
   abbrev Stopped : Option StatementError → Type 0
   Stopped o = MatchOption o (IsClear s f es × OverflowsInReading s.context s.bound (place s.names) f) (RefusesAsking s f es)
 
-  not_read : (d : StaticError) (met : Bool) → (IsTrue met ↔ Bound) → reading.IsFirstCause s.context s.bound s.names f d → Stopped (stop_of (static_refusal d) met)
+  not_read : (d : StaticError) (met : Bool) → (IsTrue met ↔ Bound) → IsFirstCause s.context s.bound s.names f d → Stopped (stop_of (static_refusal d) met)
   not_read static.Unbound met is first = reading_first static.Unbound (search rules) first absurd
   not_read static.Memory met is first = λ c asks limit printed other. absurd (other refl)
   not_read static.FormulaAsTerm true is first = bound_before first.first.0 (is.0 refl)

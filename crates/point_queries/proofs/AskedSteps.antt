@@ -24,7 +24,7 @@ use Rattle.formula_tree.specs.Resolving.{place, formula_variables, resolve}
 use Rattle.formula_tree.proofs.PlaceLaws.{after_has, after_distinct, in_either}
 use Rattle.formula_tree.proofs.ResolvedTruth.{resolving_is_normal}
 use Rattle.formula_resolving.specs.Numbering.{Grows}
-use Rattle.formula_resolving.specs.Refusals.{AreIds}
+use Rattle.formula_resolving.specs.BoundIds.{AreIds}
 use Rattle.formula_store.specs.declared.id.FormulaId.{FormulaId}
 use Rattle.formula_store.specs.Nodes.{tree, IsId}
 use Rattle.session_meaning.specs.declared.line.StatementError.{StatementError}

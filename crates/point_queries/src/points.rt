@@ -14,7 +14,7 @@ ghost use Rattle.qe_syntax.specs.Value.{same_name};
 ghost use Rattle.formula_tree.specs.Names.{with_name};
 ghost use Rattle.formula_tree.specs.Resolving.{formula_variables, at_names};
 ghost use Rattle.formula_resolving.specs.Numbering.{Grows};
-ghost use Rattle.formula_resolving.specs.Refusals.{AreIds};
+ghost use Rattle.formula_resolving.specs.BoundIds.{AreIds};
 ghost use Rattle.formula_store.specs.Nodes.{IsId};
 ghost use Rattle.problem_reading.specs.Reading.{HasNumbers};
 ghost use Rattle.point_queries.specs.Asked.{HaveNumbers, RefusesAsking, RefusesBoth, entry_names, stop_of, IsBoundName, is_whole_theory, IsReadAs, IsMeantPoint, PointStop, IsValued, ValuedStop, IsAsked};

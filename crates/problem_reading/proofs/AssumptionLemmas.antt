@@ -16,7 +16,7 @@ use Rattle.formula_tree.specs.Resolving.{resolve, at_names, formula_variables, a
 use Rattle.formula_resolving.specs.declared.error.StaticError.{StaticError}
 use Rattle.formula_resolving.specs.declared.error.StaticError.TheVariants as static
 use Rattle.formula_resolving.specs.Refusals as reading
-use Rattle.formula_resolving.specs.Refusals.{IsFirstCause}
+use Rattle.formula_resolving.specs.FirstCause.{IsFirstCause}
 use Rattle.command_tools.specs.FromSessionMeaning.{StatementError, State, atoms_alone, atoms_among, resolved_all, assumed, AllTrueAt, Hold}
 use Rattle.command_tools.specs.FromSessionMeaning.statement_error_variants as error
 use Rattle.command_tools.specs.Refusals.{static_refusal}

@@ -19,7 +19,7 @@ use Rattle.formula_meaning.specs.Formula.{also}
 use Rattle.std.specs.Prelude.{Option, None, Result, Ok, Err, Some, IfOk, IfErr}
 use Rattle.std.proofs.Common.{inl, inr}
 use Rattle.qe_syntax.specs.Trees.{FormulaTree}
-use Rattle.formula_resolving.specs.Refusals.{AreIds}
+use Rattle.formula_resolving.specs.BoundIds.{AreIds}
 use Rattle.formula_resolving.specs.declared.error.StaticError.{StaticError}
 use Rattle.command_tools.specs.FromSessionMeaning.statement_error_variants as error
 use Rattle.command_tools.proofs.FromSessionState.{same_state}

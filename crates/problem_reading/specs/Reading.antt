@@ -18,7 +18,8 @@ use Rattle.formula_tree.specs.NamesAfter.{names_after}
 use Rattle.formula_tree.specs.Accepted.{IsAccepted as IsResolvable}
 use Rattle.formula_resolving.specs.declared.error.StaticError.{StaticError}
 use Rattle.formula_resolving.specs.declared.error.StaticError.TheVariants as static
-use Rattle.formula_resolving.specs.Refusals.{IsFirstCause, Applies, order, before}
+use Rattle.formula_resolving.specs.Refusals.{Applies, order, before}
+use Rattle.formula_resolving.specs.FirstCause.{IsFirstCause}
 use Rattle.command_tools.specs.FromSessionMeaning.{StatementError, State, assumed, atoms_among, resolved_all, SomeFormula}
 use Rattle.command_tools.specs.FromSessionMeaning.statement_error_variants as error
 use Rattle.command_tools.specs.FromStandingAssumptions.{standing_trees}

@@ -8,7 +8,7 @@ ghost use Rattle.formula_tree.specs.Makers.{AreMade};
 ghost use Rattle.formula_tree.specs.Names.{with_name};
 ghost use Rattle.formula_tree.specs.Resolving.{resolve, formula_variables, all_variables};
 ghost use Rattle.formula_resolving.specs.Numbering.{Grows};
-ghost use Rattle.formula_resolving.specs.Refusals.{AreIds};
+ghost use Rattle.formula_resolving.specs.BoundIds.{AreIds};
 ghost use Rattle.formula_store.specs.Nodes.{tree, IsId};
 ghost use Rattle.qe_syntax.specs.Writable.{IsWritableFormula};
 ghost use Rattle.qe_syntax.specs.Trees.{formulas_of};

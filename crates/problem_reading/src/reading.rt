@@ -3,7 +3,8 @@
 ghost use Rattle.std.specs.Prelude.{◌<◌, IfOk, IfErr, OnOk};
 ghost use Rattle.formula_tree.specs.Makers.{IsMade};
 ghost use Rattle.formula_tree.specs.Resolving.{resolve};
-ghost use Rattle.formula_resolving.specs.Refusals.{AreIds, IsFirstCause};
+ghost use Rattle.formula_resolving.specs.BoundIds.{AreIds};
+ghost use Rattle.formula_resolving.specs.FirstCause.{IsFirstCause};
 ghost use Rattle.formula_store.specs.Nodes.{tree, IsId};
 ghost use Rattle.qe_syntax.specs.Writable.{IsWritableFormula};
 ghost use Rattle.qe_syntax.specs.CodeTrees.{formula_tree};

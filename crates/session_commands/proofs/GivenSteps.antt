@@ -21,7 +21,7 @@ use Rattle.formula_tree.specs.Names.{with_name}
 use Rattle.formula_tree.specs.Resolving.{formula_variables, all_variables, resolve}
 use Rattle.formula_tree.proofs.PlaceLaws.{after_distinct}
 use Rattle.formula_resolving.specs.Numbering.{Grows}
-use Rattle.formula_resolving.specs.Refusals.{AreIds}
+use Rattle.formula_resolving.specs.BoundIds.{AreIds}
 use Rattle.formula_tree.specs.declared.shape.Shape.{Shape}
 use Rattle.formula_store.specs.declared.id.FormulaId.{FormulaId}
 use Rattle.formula_store.specs.Nodes.{tree, IsId}

@@ -4,7 +4,7 @@ ghost use Rattle.formula_meaning.specs.Formula.{also};
 ghost use Rattle.std.specs.Prelude.{◌≡◌, ◌⊎◌, ◌↔◌, ◌<◌, ◌≤◌, ◌++◌, ℕ, List, Bool, true, IsTrue, Option, IfOk, IfErr, IfSome, IfNone, MatchOption, OnOk, OnErr, length, codes, map};
 ghost use Rattle.std.specs.Bool.{MatchBool};
 ghost use Rattle.formula_tree.specs.Bindings.{bound_to, most_bound};
-ghost use Rattle.formula_resolving.specs.Refusals.{AreIds};
+ghost use Rattle.formula_resolving.specs.BoundIds.{AreIds};
 ghost use Rattle.formula_store.specs.Nodes.{tree, IsId};
 ghost use Rattle.formula_meaning.specs.Within.{IsTreeWithin};
 ghost use Rattle.formula_meaning.specs.Members.{HasTwoMembers};

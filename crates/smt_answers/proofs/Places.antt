@@ -9,7 +9,8 @@ use Rattle.redlog_tokens.specs.Lexing.{is_blank, is_in_line}
 use Rattle.smt_tokens.specs.declared.lexer.Front.{Front}
 use Rattle.smt_tokens.specs.declared.token.SmtCut.{SmtCut}
 use Rattle.smt_tokens.specs.declared.token.SmtLexeme.{SmtLexeme}
-use Rattle.smt_tokens.specs.Lexing.{is_in_bars, is_symbol_part, begins_with_digit, symbol_length, fraction_length, closing_quote, closed_at, quoted, barred, keyword, simple, numbered_by, numbered, front, size, Lexes, over, spaced, taken}
+use Rattle.smt_tokens.specs.Lexing.{is_in_bars, is_symbol_part, begins_with_digit, symbol_length, fraction_length, closing_quote, closed_at, quoted, barred, keyword, simple, numbered_by, numbered, front, Lexes, over, spaced, taken}
+use Rattle.smt_tokens.specs.Fronts.{size}
 use Rattle.smt_tokens.specs.Commands.{Closes, never, here, closed, opened, inside, Runs, stops, goes, Cuts, none, group, loose, AreCommands}
 use Rattle.smt_tokens.specs.Commands as commands
 use Rattle.smt_tokens.proofs.Fronts.{either}

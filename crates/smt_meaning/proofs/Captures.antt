@@ -20,7 +20,8 @@ use Rattle.smt_syntax.specs.declared.names.SortedName.{SortedName}
 use Rattle.smt_syntax.specs.declared.expression.Operator.{Operator}
 use Rattle.smt_syntax.specs.declared.expression.Operator.TheVariants as operator
 use Rattle.smt_syntax.specs.Trees.{ExpressionTree, ExpressionTrees, LocalTrees, True, False, Numeral, Decimal, Named, Apply, Divisible, Quantified, Let, none, also, no_local, also_local}
-use Rattle.smt_meaning.specs.Levels.{level, IsLevelBelow, closed}
+use Rattle.smt_meaning.specs.Levels.{level, closed}
+use Rattle.smt_meaning.specs.LevelsBelow.{IsLevelBelow}
 use Rattle.smt_meaning.specs.Shapes.{comparison, chained, joined_of, neighbours, pairs, implications}
 use Rattle.smt_meaning.specs.Operators.{Meaning, Term, Formula, Members, Terms, Formulas, as_terms, as_formulas, of_one_kind, of_terms, of_formulas, of_members}
 use Rattle.smt_meaning.specs.Meaning.{Scope, with_symbol, variable, opened, are_numbers, as_formula, as_term, decimal, divisible, and_then, meaning, meanings, local_scope}

@@ -10,7 +10,8 @@ use Rattle.qe_syntax.specs.declared.tree.Relation.TheVariants as relation
 use Rattle.qe_syntax.specs.Trees as language
 use Rattle.smt_syntax.specs.declared.names.SortedName.{SortedName}
 use Rattle.smt_syntax.specs.declared.expression.Operator.TheVariants as operator
-use Rattle.smt_syntax.specs.Trees.{ExpressionTree, LocalTree, True, False, Numeral, Decimal, Named, Apply, Divisible, Quantified, Let, expressions_of, locals_of}
+use Rattle.smt_syntax.specs.Trees.{ExpressionTree, LocalTree, True, False, Numeral, Decimal, Named, Apply, Divisible, Quantified, Let}
+use Rattle.smt_syntax.specs.TreeLists.{expressions_of, locals_of}
 use Rattle.smt_meaning.specs.Levels.{level}
 use Rattle.smt_meaning.specs.Operators.{Formula}
 use Rattle.smt_meaning.specs.Meaning.{meaning, declared_scope}

@@ -15,7 +15,8 @@ use Rattle.formula_tree.specs.Names.{with_name}
 use Rattle.formula_tree.specs.NamesAfter.{names_after}
 use Rattle.formula_tree.specs.Resolving.{place, variables_of, variables_in, formula_variables, all_variables}
 use Rattle.formula_tree.proofs.PlaceLaws.{same_itself}
-use Rattle.smt_meaning.specs.Levels.{level, levels, levels_from, IsLevelBelow, AreLevelsBelow, closed}
+use Rattle.smt_meaning.specs.Levels.{level, levels, levels_from, closed}
+use Rattle.smt_meaning.specs.LevelsBelow.{IsLevelBelow, AreLevelsBelow}
 use Rattle.smt_meaning.specs.Shapes.{joined_of, neighbours, pairs, implications}
 use Rattle.smt_meaning.specs.Operators.{Meaning, Term}
 use Rattle.smt_meaning.specs.Operators as operators

@@ -18,12 +18,14 @@ use Rattle.smt_syntax.specs.declared.names.SortedName.{SortedName}
 use Rattle.smt_syntax.specs.declared.expression.Operator.{Operator}
 use Rattle.smt_syntax.specs.declared.expression.Operator.TheVariants as operator
 use Rattle.smt_syntax.specs.Trees.{ExpressionTree, ExpressionTrees, LocalTrees, True, False, Numeral, Decimal, Named, Apply, Divisible, Quantified, Let, none, also, no_local, also_local}
-use Rattle.smt_meaning.specs.Levels.{IsLevelBelow, AreLevelsBelow, closed}
+use Rattle.smt_meaning.specs.Levels.{closed}
+use Rattle.smt_meaning.specs.LevelsBelow.{IsLevelBelow, AreLevelsBelow}
 use Rattle.smt_meaning.specs.Shapes.{comparison, chained, neighbours, pairs, divides}
 use Rattle.smt_meaning.specs.Operators.{Meaning, Term, Formula, Members, Terms, Formulas, as_terms, as_formulas, of_one_kind, of_terms, of_formulas, of_members}
 use Rattle.smt_meaning.specs.Meaning.{Scope, with_symbol, variable, declared_scope, opened, are_numbers, as_formula, as_term, decimal, divisible, and_then, meaning, meanings, local_scope}
 use Rattle.smt_meaning.specs.Proper.{IsPositive, IsProper, AreProper, AreProperLocals}
-use Rattle.smt_meaning.specs.Atoms.{IsOfTheory, IsFormulaBelow, IsBelow, quantified_names, all_quantified_names, local_quantified_names}
+use Rattle.smt_meaning.specs.Atoms.{IsOfTheory, IsFormulaBelow, IsBelow}
+use Rattle.smt_meaning.specs.QuantifiedNames.{quantified_names, all_quantified_names, local_quantified_names}
 use Rattle.smt_meaning.specs.Laws.{LevelsSuffice}
 use Rattle.smt_meaning.proofs.Levels.{all_append, all_weaker, joined_below, neighbours_below, pairs_below, implications_below, closed_below, terms_below, negatives_below, meaning_more}
 

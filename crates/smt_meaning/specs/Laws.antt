@@ -2,7 +2,8 @@
 use Rattle.std.specs.Prelude.{◌≡◌, ℕ, ◌+◌, List, Some, length}
 use Rattle.formula_meaning.specs.Context.{Context}
 use Rattle.smt_syntax.specs.Trees.{ExpressionTree}
-use Rattle.smt_meaning.specs.Atoms.{IsBelow, IsClosedBelow, quantified_names}
+use Rattle.smt_meaning.specs.Atoms.{IsBelow, IsClosedBelow}
+use Rattle.smt_meaning.specs.QuantifiedNames.{quantified_names}
 use Rattle.smt_meaning.specs.Meaning.{Scope, meaning, declared_scope}
 use Rattle.smt_meaning.specs.Operators.{Meaning}
 use Rattle.smt_meaning.specs.Proper.{IsProper}

@@ -1,7 +1,6 @@
 -- The names that stand for the names of a script: a name is numbered by how many names are around it, so that no two names that
 -- are around one place are the same.
-use Rattle.std.specs.Prelude.{◌≡◌, ◌<◌, ℕ, zero, suc, List, [], ◌∷◌}
-use Rattle.std.specs.List.{AllByRecursion}
+use Rattle.std.specs.Prelude.{ℕ, zero, suc, List, [], ◌∷◌}
 use Rattle.formula_meaning.specs.declared.quantifier.Quantifier.{Quantifier}
 use Rattle.formula_meaning.specs.Shape.{quantified}
 use Rattle.qe_syntax.specs.Trees.{FormulaTree}
@@ -18,14 +17,6 @@ levels_from n (suc count) = level n ∷ levels_from (suc n) count
 -- the names of the first levels
 abbrev pub levels : ℕ → List (List ℕ)
 levels count = levels_from 0 count
-
--- the name is that of a level below
-abbrev pub IsLevelBelow : ℕ → List ℕ → Type 0
-IsLevelBelow count x = (n : ℕ) × (n < count) × (x ≡ level n)
-
--- each name is that of a level below
-abbrev pub AreLevelsBelow : ℕ → List (List ℕ) → Type 0
-AreLevelsBelow count xs = AllByRecursion (IsLevelBelow count) xs
 
 -- the formula under a quantifier for each of the names, which have the levels from n on
 abbrev pub closed : {X : Type 0} → Quantifier → ℕ → List X → FormulaTree → FormulaTree

@@ -1,4 +1,5 @@
 pub mod Levels
+pub mod LevelsBelow
 pub mod Shapes
 pub mod Operators
 pub mod Meaning
@@ -6,4 +7,5 @@ pub mod Undeclared
 pub mod Nodes
 pub mod Proper
 pub mod Atoms
+pub mod QuantifiedNames
 pub mod Laws

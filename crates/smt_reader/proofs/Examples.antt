@@ -12,7 +12,8 @@ use Rattle.smt_syntax.specs.declared.command.Sort.TheVariants as sort
 use Rattle.smt_syntax.specs.declared.expression.Operator.{Operator}
 use Rattle.smt_syntax.specs.declared.expression.Operator.TheVariants as operator
 use Rattle.smt_syntax.specs.declared.names.SortedName.{SortedName}
-use Rattle.smt_syntax.specs.Trees.{CommandTree, Choose, Ignored, Declare, Assert, Values, Exit, ExpressionTree, True, Numeral, Decimal, Named, Apply, Divisible, Quantified, Let, no_local, also_local, expressions_of}
+use Rattle.smt_syntax.specs.Trees.{CommandTree, Choose, Ignored, Declare, Assert, Values, Exit, ExpressionTree, True, Numeral, Decimal, Named, Apply, Divisible, Quantified, Let, no_local, also_local}
+use Rattle.smt_syntax.specs.TreeLists.{expressions_of}
 use Rattle.smt_words.specs.Words.{word_of, logic_of}
 use Rattle.smt_words.specs.Faults.{has_bad, is_deep}
 use Rattle.smt_reader.specs.declared.sexpr.Leaf.TheVariants as leaf

@@ -4,7 +4,8 @@ use Rattle.std.specs.Prelude.{Some}
 use Rattle.smt_tokens.specs.declared.token.SmtToken.{SmtToken}
 use Rattle.smt_tokens.specs.declared.token.SmtToken.TheVariants as token
 use Rattle.smt_reader.specs.declared.sexpr.Leaf.TheVariants as leaf
-use Rattle.smt_reader.specs.SExprs.{SExprTree, SExprTrees, One, Group, none, also, sexprs_of, written, written_all}
+use Rattle.smt_reader.specs.SExprs.{SExprTree, SExprTrees, One, Group, none, also, written, written_all}
+use Rattle.smt_reader.specs.SExprLists.{sexprs_of}
 use Rattle.smt_reader.specs.Grouping.{Open, grouped}
 use Rattle.smt_reader.proofs.Lists.{append_none}
 

@@ -8,7 +8,7 @@ use Rattle.smt_reader.specs.declared.sexpr.Leaf.{Leaf}
 use Rattle.smt_reader.specs.declared.sexpr.SExpr.{SExpr}
 use Rattle.smt_reader.specs.declared.sexpr.SExpr.TheVariants as sexpr
 use Rattle.smt_reader.specs.declared.grouping.OpenGroups.{OpenGroups}
-use Rattle.smt_reader.specs.SExprs.{leaf_of}
+use Rattle.smt_reader.specs.SExprLists.{leaf_of}
 use Rattle.smt_reader.specs.CodeTrees.{sexpr_tree}
 use Rattle.smt_words.specs.Faults.{kinds}
 use Rattle.smt_reader.specs.Grouping.{Goes, leaf_put}

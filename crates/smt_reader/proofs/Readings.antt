@@ -5,7 +5,8 @@ use Rattle.std.specs.Option.{option_map, option_and_then}
 use Rattle.formula_meaning.specs.declared.quantifier.Quantifier.{Quantifier}
 use Rattle.smt_syntax.specs.declared.expression.Operator.{Operator}
 use Rattle.smt_syntax.specs.declared.names.SortedName.{SortedName}
-use Rattle.smt_syntax.specs.Trees.{ExpressionTree, LocalTree, Apply, Quantified, Let, expressions_of, locals_of}
+use Rattle.smt_syntax.specs.Trees.{ExpressionTree, LocalTree, Apply, Quantified, Let}
+use Rattle.smt_syntax.specs.TreeLists.{expressions_of, locals_of}
 use Rattle.smt_reader.specs.declared.refusal.Refusal.{Refusal}
 use Rattle.smt_reader.specs.declared.refusal.Refusal.TheVariants as refusal
 use Rattle.smt_reader.specs.declared.sexpr.Leaf.{Leaf}

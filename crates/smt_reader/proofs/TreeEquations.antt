@@ -8,7 +8,8 @@ use Rattle.smt_reader.specs.declared.sexpr.SExpr as code
 use Rattle.smt_reader.specs.declared.sexpr.SExpr.TheVariants as sexpr
 use Rattle.smt_reader.specs.declared.sexpr.SExpr.TheOpen as layer
 use Rattle.smt_reader.specs.declared.sexpr.SExprs as codes
-use Rattle.smt_reader.specs.SExprs.{One, Group, sexprs_of}
+use Rattle.smt_reader.specs.SExprs.{One, Group}
+use Rattle.smt_reader.specs.SExprLists.{sexprs_of}
 use Rattle.smt_reader.specs.CodeTrees.{sexpr_step, sexprs_step, sexpr_tree, sexpr_trees}
 
 pub tree-Leaf : (l : Leaf) → sexpr_tree (sexpr.Leaf l) ≡ One l

@@ -3,7 +3,8 @@ use Rattle.std.specs.Prelude.{List, [], ◌∷◌, ◌++◌, Option, Some, None}
 use Rattle.smt_tokens.specs.declared.token.SmtToken.{SmtToken}
 use Rattle.smt_tokens.specs.declared.token.SmtToken.TheVariants as token
 use Rattle.smt_reader.specs.declared.sexpr.Leaf.{Leaf}
-use Rattle.smt_reader.specs.SExprs.{SExprTree, SExprTrees, One, Group, sexprs_of, leaf_of}
+use Rattle.smt_reader.specs.SExprs.{SExprTree, SExprTrees, One, Group}
+use Rattle.smt_reader.specs.SExprLists.{sexprs_of, leaf_of}
 
 -- what is open: the members so far of the inmost group, and of those around it, the one first that is directly around
 pub record Open : Type 0 where

@@ -1,4 +1,5 @@
 pub mod SExprs
+pub mod SExprLists
 pub mod CodeTrees
 pub mod Shapes
 pub mod Bindings

@@ -1,5 +1,5 @@
 -- S-expressions, and the tokens that each is written with.
-use Rattle.std.specs.Prelude.{List, [], ◌∷◌, Option, Some, None}
+use Rattle.std.specs.Prelude.{List, ◌∷◌}
 use Rattle.smt_tokens.specs.declared.token.SmtToken.{SmtToken}
 use Rattle.smt_tokens.specs.declared.token.SmtToken.TheVariants as token
 use Rattle.smt_reader.specs.declared.sexpr.Leaf.{Leaf}
@@ -16,11 +16,6 @@ mutual
     none : SExprTrees
     also : SExprTree → SExprTrees → SExprTrees
 
--- the members of a list
-abbrev pub sexprs_of : List SExprTree → SExprTrees
-sexprs_of [] = none
-sexprs_of (s ∷ ss) = also s (sexprs_of ss)
-
 -- the token of a leaf
 abbrev pub token_of : Leaf → SmtToken
 token_of (leaf.Numeral n) = token.Numeral n
@@ -29,18 +24,6 @@ token_of (leaf.Symbol x) = token.Symbol x
 token_of leaf.Unfit = token.Unfit
 token_of leaf.Text = token.Text
 token_of leaf.Keyword = token.Keyword
-
--- the leaf of a token, where it is one: no parenthesis, and not bad
-abbrev pub leaf_of : SmtToken → Option Leaf
-leaf_of (token.Numeral n) = Some (leaf.Numeral n)
-leaf_of (token.Decimal n power) = Some (leaf.Decimal n power)
-leaf_of (token.Symbol x) = Some (leaf.Symbol x)
-leaf_of token.Unfit = Some leaf.Unfit
-leaf_of token.Text = Some leaf.Text
-leaf_of token.Keyword = Some leaf.Keyword
-leaf_of token.Open = None
-leaf_of token.Close = None
-leaf_of token.Bad = None
 
 -- the tokens of an S-expression, and these after them
 abbrev mutual

@@ -1,6 +1,7 @@
 ghost use Rattle.std.specs.Prelude.{◌≡◌, List, Some, None, [], ◌∷◌, map, reverse, IfOk, IfErr, OnOk};
 ghost use Rattle.smt_tokens.specs.declared.token.SmtToken.TheVariants.{Open};
-ghost use Rattle.smt_reader.specs.SExprs.{SExprTrees, Group, written, leaf_of};
+ghost use Rattle.smt_reader.specs.SExprs.{SExprTrees, Group, written};
+ghost use Rattle.smt_reader.specs.SExprLists.{leaf_of};
 ghost use Rattle.smt_reader.specs.CodeTrees.{sexpr_tree, trees_of};
 ghost use Rattle.smt_reader.specs.Grouping.{grouped, step, put, opened, closed, leaf_put, Fails};
 ghost use Rattle.smt_reader.specs.OpenGroups.{open_of, reached_of};

@@ -1,5 +1,6 @@
 ghost use Rattle.std.specs.Prelude.{◌≡◌, map};
-ghost use Rattle.smt_reader.specs.SExprs.{SExprTree, sexprs_of, leaf_of, Group};
+ghost use Rattle.smt_reader.specs.SExprs.{SExprTree, Group};
+ghost use Rattle.smt_reader.specs.SExprLists.{sexprs_of, leaf_of};
 ghost use Rattle.smt_reader.specs.CodeTrees.{sexpr_tree, sexpr_trees, trees_of};
 ghost use Rattle.smt_reader.specs.Shapes.{symbol_in, numeral_in, symbol_at, word_at, name_at, numeral_at, is_void};
 

@@ -8,13 +8,15 @@ use Rattle.formula_tree.specs.Accepted.{IsAccepted}
 use Rattle.formula_tree.specs.Resolving.{formula_variables}
 use Rattle.formula_resolving.specs.MetCauses.{IsRefused}
 use Rattle.formula_resolving.specs.Parts.{AreTold, IsToldAlone}
-use Rattle.formula_resolving.specs.Refusals.{IsFirstCause}
+use Rattle.formula_resolving.specs.FirstCause.{IsFirstCause}
 use Rattle.formula_resolving.specs.declared.error.StaticError.{StaticError}
 use Rattle.formula_resolving.specs.declared.error.StaticError.TheVariants as static
 use Rattle.formula_resolving.specs.declared.parts.Part.{Part}
 use Rattle.smt_syntax.specs.Trees.{ExpressionTree}
-use Rattle.smt_meaning.specs.Atoms.{IsFormulaBelow, quantified_names}
-use Rattle.smt_meaning.specs.Levels.{levels, AreLevelsBelow}
+use Rattle.smt_meaning.specs.Atoms.{IsFormulaBelow}
+use Rattle.smt_meaning.specs.QuantifiedNames.{quantified_names}
+use Rattle.smt_meaning.specs.Levels.{levels}
+use Rattle.smt_meaning.specs.LevelsBelow.{AreLevelsBelow}
 use Rattle.smt_meaning.specs.Meaning.{Scope, meaning, declared_scope, as_formula}
 use Rattle.smt_meaning.specs.Operators.{Meaning, Formula}
 use Rattle.smt_meaning.specs.Proper.{IsProper}
@@ -27,8 +29,10 @@ use Rattle.smt_values.specs.declared.value.Value.TheVariants as value
 use Rattle.smt_values.specs.Readings.{IsMeant, IsScope}
 use Rattle.smt_values.specs.Values.{IsFormulaValue, IsLevelPart}
 use Rattle.smt_values.proofs.ReadingLaws.{some_same, term_read, formula_read}
-use Rattle.smt_resolving.specs.Asserted.{assertion_levels, is_undeclared, MeansFormula, MeansWithin, IsAsserted, MeansNoFormula, MeansTooMany, IsRefusedFor, told_as}
-use Rattle.smt_resolving.specs.Known.{declared_known, IsKnownAt}
+use Rattle.smt_resolving.specs.Asserted.{assertion_levels, is_undeclared, MeansFormula, MeansWithin, MeansNoFormula, MeansTooMany}
+use Rattle.smt_resolving.specs.Outcomes.{IsAsserted, IsRefusedFor, told_as}
+use Rattle.smt_resolving.specs.Known.{declared_known}
+use Rattle.smt_resolving.specs.KnownAt.{IsKnownAt}
 use Rattle.smt_resolving.specs.Reading.{IsReading}
 use Rattle.smt_resolving.specs.declared.error.AssertError.{AssertError}
 use Rattle.smt_resolving.proofs.Possible.{never_unbound, never_as_term, never_congruent, never_bad_modulus}

@@ -7,13 +7,14 @@ use Rattle.formula_tree.specs.Bindings.{bound_to}
 use Rattle.smt_syntax.specs.declared.names.SortedName.{SortedName}
 use Rattle.smt_syntax.specs.declared.expression.LocalValue as local
 use Rattle.smt_syntax.specs.CodeTrees.{expression_tree, local_tree}
-use Rattle.smt_syntax.specs.Trees.{locals_of}
+use Rattle.smt_syntax.specs.TreeLists.{locals_of}
 use Rattle.smt_syntax.proofs.TreeEquations.{local-out}
 use Rattle.smt_meaning.specs.Undeclared.{Known, with_known, known_inside, known_locals, has_unknown, values_have_unknown}
 use Rattle.smt_values.specs.Frames.{looked_up}
 use Rattle.smt_values.proofs.FrameLaws.{looked_inside}
 use Rattle.smt_resolving.proofs.Written.{locals_left}
-use Rattle.smt_resolving.specs.Known.{IsKnownAt, declared_known}
+use Rattle.smt_resolving.specs.Known.{declared_known}
+use Rattle.smt_resolving.specs.KnownAt.{IsKnownAt}
 
 module _ {V : Type 0} where
   either_known : (b o : Option V) (d : Bool) → (is_some b || (is_some o || d)) ≡ (is_some (option_or b o) || d)

@@ -9,7 +9,8 @@ use Rattle.smt_syntax.specs.declared.expression.Expression.TheVariants as expres
 use Rattle.smt_syntax.specs.declared.expression.LocalValue as local
 use Rattle.smt_syntax.specs.declared.expression.LocalValues as locals
 use Rattle.smt_syntax.specs.CodeTrees.{expression_tree, local_tree, local_trees}
-use Rattle.smt_syntax.specs.Trees.{Quantified, Let, also, also_local, expressions_of, locals_of}
+use Rattle.smt_syntax.specs.Trees.{Quantified, Let, also, also_local}
+use Rattle.smt_syntax.specs.TreeLists.{expressions_of, locals_of}
 use Rattle.smt_syntax.proofs.TreeEquations.{tree-Quantified, tree-Let, local-out}
 use Rattle.smt_meaning.specs.Proper.{IsProper, AreProper, AreProperLocals}
 

@@ -1,3 +1,5 @@
 pub mod Known
+pub mod KnownAt
 pub mod Reading
 pub mod Asserted
+pub mod Outcomes

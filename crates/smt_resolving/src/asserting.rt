@@ -5,7 +5,7 @@ ghost use Rattle.atom_normal.specs.Atoms.{context_of};
 ghost use Rattle.formula_tree.specs.Makers.{Keeps};
 ghost use Rattle.smt_syntax.specs.CodeTrees.{expression_tree};
 ghost use Rattle.smt_meaning.specs.Proper.{IsProper};
-ghost use Rattle.smt_resolving.specs.Asserted.{IsAsserted, IsRefusedFor, told_as};
+ghost use Rattle.smt_resolving.specs.Outcomes.{IsAsserted, IsRefusedFor, told_as};
 
 use crate::error::AssertError;
 use crate::reading::read;

@@ -3,7 +3,8 @@
 ghost use Rattle.std.specs.Prelude.{map, IfOk};
 ghost use Rattle.atom_normal.specs.Atoms.{context_of};
 ghost use Rattle.formula_tree.specs.Makers.{Keeps};
-ghost use Rattle.smt_syntax.specs.Trees.{Quantified, expressions_of, locals_of};
+ghost use Rattle.smt_syntax.specs.Trees.{Quantified};
+ghost use Rattle.smt_syntax.specs.TreeLists.{expressions_of, locals_of};
 ghost use Rattle.smt_syntax.specs.CodeTrees.{expression_tree, local_tree};
 ghost use Rattle.smt_meaning.specs.Meaning.{meaning, meanings, local_scope};
 ghost use Rattle.smt_meaning.specs.Proper.{IsProper, AreProper, AreProperLocals};

@@ -2,10 +2,10 @@
 
 ghost use Rattle.std.specs.Prelude.{◌≡◌, ◌||◌, ◌++◌, ◌∷◌, [], ℕ, List, map, is_some, IfOk, OnOk};
 ghost use Rattle.formula_tree.specs.Bindings.{bound_to};
-ghost use Rattle.smt_syntax.specs.Trees.{expressions_of, locals_of};
+ghost use Rattle.smt_syntax.specs.TreeLists.{expressions_of, locals_of};
 ghost use Rattle.smt_syntax.specs.CodeTrees.{expression_tree, local_tree};
 ghost use Rattle.smt_meaning.specs.Undeclared.{Known, known_inside, known_locals, has_unknown, have_unknown, values_have_unknown};
-ghost use Rattle.smt_resolving.specs.Known.{IsKnownAt};
+ghost use Rattle.smt_resolving.specs.KnownAt.{IsKnownAt};
 
 use formula_tree::Names;
 use smt_syntax::{Expression, LocalValue, SortedName};

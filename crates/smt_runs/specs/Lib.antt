@@ -1,5 +1,6 @@
 pub mod State
 pub mod Words
+pub mod AssertionWords
 pub mod Sentence
 pub mod Checks
 pub mod Texts

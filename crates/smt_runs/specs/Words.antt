@@ -2,8 +2,6 @@
 use Rattle.std.specs.Prelude.{ℕ, List, [], ◌∷◌, codes}
 use Rattle.smt_reader.specs.declared.read.ReadError.{ReadError}
 use Rattle.smt_reader.specs.declared.read.ReadError.TheVariants as reading
-use Rattle.smt_resolving.specs.declared.error.AssertError.{AssertError}
-use Rattle.smt_resolving.specs.declared.error.AssertError.TheVariants as assertion
 use Rattle.smt_runs.specs.declared.error.SmtError.{SmtError}
 use Rattle.smt_runs.specs.declared.error.SmtError.TheVariants as error
 
@@ -62,14 +60,3 @@ of_reading reading.Lexical = error.Lexical
 of_reading reading.Nesting = error.Nesting
 of_reading reading.Syntax = error.Syntax
 of_reading reading.Memory = error.Memory
-
--- the cause of an assertion that is refused
-abbrev pub of_assertion : AssertError → SmtError
-of_assertion assertion.Undeclared = error.Undeclared
-of_assertion assertion.Sort = error.Sort
-of_assertion assertion.Nodes = error.Nodes
-of_assertion assertion.Nonlinear = error.Nonlinear
-of_assertion assertion.Division = error.Division
-of_assertion assertion.Depth = error.Depth
-of_assertion assertion.Overflow = error.Overflow
-of_assertion assertion.Memory = error.Memory

@@ -1,5 +1,6 @@
 ghost use Rattle.std.specs.Prelude.{◌≡◌};
-ghost use Rattle.smt_runs.specs.Words.{of_reading, of_assertion, word_of};
+ghost use Rattle.smt_runs.specs.Words.{of_reading, word_of};
+ghost use Rattle.smt_runs.specs.AssertionWords.{of_assertion};
 ghost use Rattle.smt_runs.specs.declared.error.SmtError.TheVariants as error;
 
 use smt_reader::ReadError;

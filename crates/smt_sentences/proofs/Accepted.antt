@@ -9,7 +9,8 @@ use Rattle.formula_tree.specs.Causes.{HasNoTree, IsBound, MentionsBound, IsUnbou
 use Rattle.formula_tree.specs.NamesAfter.{names_after}
 use Rattle.formula_tree.specs.Resolving.{formula_variables, place}
 use Rattle.formula_tree.specs.Somewhere.{Somewhere, SomewhereIn}
-use Rattle.smt_meaning.specs.Levels.{level, levels, AreLevelsBelow, closed}
+use Rattle.smt_meaning.specs.Levels.{level, levels, closed}
+use Rattle.smt_meaning.specs.LevelsBelow.{AreLevelsBelow}
 use Rattle.smt_meaning.proofs.Levels.{all_weaker, same_names_after}
 use Rattle.smt_runs.specs.Sentence.{all_of}
 

@@ -21,7 +21,8 @@ use Rattle.sample_reference.specs.Values.{with_values, IsValue, origin}
 use Rattle.sample_reference.proofs.Chain.{origin_of}
 use Rattle.sample_reference.proofs.SamePoints.{values_of_theory}
 use Rattle.sentence_theory.specs.Leading.{named_from, AreWitnesses}
-use Rattle.smt_meaning.specs.Levels.{level, levels, AreLevelsBelow}
+use Rattle.smt_meaning.specs.Levels.{level, levels}
+use Rattle.smt_meaning.specs.LevelsBelow.{AreLevelsBelow}
 use Rattle.smt_meaning.proofs.Levels.{place_level}
 use Rattle.smt_runs.specs.State.{State}
 use Rattle.smt_runs.specs.Sentence.{Says, all_of, sentence, resolved_sentence}

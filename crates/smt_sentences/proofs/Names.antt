@@ -9,7 +9,8 @@ use Rattle.qe_syntax.specs.FreeNames.{IsFree}
 use Rattle.qe_syntax.specs.Trees.{FormulaTree, formulas_of}
 use Rattle.qe_syntax.specs.Value.{Mentions}
 use Rattle.formula_tree.specs.Resolving.{formula_variables, all_variables}
-use Rattle.smt_meaning.specs.Levels.{level, IsLevelBelow, AreLevelsBelow, closed}
+use Rattle.smt_meaning.specs.Levels.{level, closed}
+use Rattle.smt_meaning.specs.LevelsBelow.{IsLevelBelow, AreLevelsBelow}
 use Rattle.smt_meaning.proofs.Levels.{all_append, all_first, all_second, all_weaker, more_levels}
 use Rattle.smt_runs.specs.State.{State}
 use Rattle.smt_runs.specs.Sentence.{all_of, sentence, level_count}

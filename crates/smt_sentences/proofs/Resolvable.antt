@@ -6,14 +6,15 @@ use Rattle.formula_meaning.specs.Tree.{Tree}
 use Rattle.qe_syntax.specs.Trees.{FormulaTree}
 use Rattle.qe_syntax.specs.Value.{same_name}
 use Rattle.smt_syntax.specs.Trees.{ExpressionTree}
-use Rattle.smt_meaning.specs.Atoms.{IsClosedBelow, quantified_names}
+use Rattle.smt_meaning.specs.Atoms.{IsClosedBelow}
+use Rattle.smt_meaning.specs.QuantifiedNames.{quantified_names}
 use Rattle.smt_meaning.specs.Meaning.{meaning, declared_scope, variable}
 use Rattle.smt_meaning.specs.Operators.{Meaning, Formula}
 use Rattle.smt_meaning.specs.Proper.{IsProper}
 use Rattle.smt_meaning.proofs.Captures.{nothing_is_captured}
 use Rattle.smt_meaning.proofs.MeaningNames.{map_there, as_formula_there, levels_suffice}
 use Rattle.std.proofs.lemmas.List.Quantifiers.{position-Some}
-use Rattle.smt_resolving.specs.Asserted.{IsAssertedAs}
+use Rattle.smt_resolving.specs.Outcomes.{IsAssertedAs}
 use Rattle.smt_sentences.specs.Resolvable.{IsResolvable}
 
 -- what may stand asserted may so where more names are declared

@@ -21,7 +21,8 @@ use Rattle.formula_tree.specs.Trees.{members}
 use Rattle.formula_tree.proofs.ResolvedNames.{resolving_brings_no_name}
 use Rattle.formula_tree.proofs.ResolvedTruth.{resolving_keeps_truth, resolving_is_normal}
 use Rattle.sentence_theory.specs.Leading.{under_names}
-use Rattle.smt_meaning.specs.Levels.{level, levels, levels_from, AreLevelsBelow, closed}
+use Rattle.smt_meaning.specs.Levels.{level, levels, levels_from, closed}
+use Rattle.smt_meaning.specs.LevelsBelow.{AreLevelsBelow}
 use Rattle.smt_meaning.proofs.Levels.{place_level, same_names_after}
 use Rattle.smt_runs.specs.Sentence.{Says, all_of}
 use Rattle.smt_sentences.specs.Resolved.{conjunction}

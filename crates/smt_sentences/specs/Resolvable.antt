@@ -7,7 +7,8 @@ use Rattle.qe_syntax.specs.Trees.{FormulaTree}
 use Rattle.formula_tree.specs.Accepted.{IsAccepted}
 use Rattle.formula_tree.specs.Resolving.{formula_variables}
 use Rattle.smt_meaning.specs.Atoms.{IsOfTheory}
-use Rattle.smt_meaning.specs.Levels.{levels, IsLevelBelow, AreLevelsBelow}
+use Rattle.smt_meaning.specs.Levels.{levels}
+use Rattle.smt_meaning.specs.LevelsBelow.{IsLevelBelow, AreLevelsBelow}
 
 -- Its atoms are of the theory, its names are those of levels, of which the free ones are below count, and no cause of a refusal applies
 -- to it, however many levels are numbered.

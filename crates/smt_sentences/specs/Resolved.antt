@@ -14,7 +14,8 @@ use Rattle.qe_syntax.specs.Trees.{FormulaTree}
 use Rattle.formula_tree.specs.Causes.{height_in_place, IsTooDeep}
 use Rattle.formula_tree.specs.Resolving.{formula_variables, resolve}
 use Rattle.formula_tree.specs.Trees.{members}
-use Rattle.smt_meaning.specs.Levels.{levels, AreLevelsBelow}
+use Rattle.smt_meaning.specs.Levels.{levels}
+use Rattle.smt_meaning.specs.LevelsBelow.{AreLevelsBelow}
 use Rattle.sentence_theory.specs.Leading.{under_names, AreWitnesses}
 use Rattle.smt_runs.specs.State.{State}
 use Rattle.smt_runs.specs.Sentence.{sentence, level_count, resolved_sentence, Holds, Fails}

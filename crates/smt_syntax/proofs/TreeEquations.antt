@@ -14,7 +14,8 @@ use Rattle.smt_syntax.specs.declared.expression.Expression.TheOpen as layer
 use Rattle.smt_syntax.specs.declared.expression.Expressions as codes
 use Rattle.smt_syntax.specs.declared.expression.LocalValue as local
 use Rattle.smt_syntax.specs.declared.expression.LocalValues as locals
-use Rattle.smt_syntax.specs.Trees.{True, False, Numeral, Decimal, Named, Apply, Divisible, Quantified, Let, expressions_of, locals_of}
+use Rattle.smt_syntax.specs.Trees.{True, False, Numeral, Decimal, Named, Apply, Divisible, Quantified, Let}
+use Rattle.smt_syntax.specs.TreeLists.{expressions_of, locals_of}
 use Rattle.smt_syntax.specs.CodeTrees.{expression_step, expressions_step, local_step, locals_step, expression_tree, expression_trees, local_tree, local_trees}
 
 pub tree-True : expression_tree expression.True ≡ True

@@ -6,7 +6,8 @@ use Rattle.smt_syntax.specs.declared.expression.LocalValue as local
 use Rattle.smt_syntax.specs.declared.expression.LocalValues as locals
 use Rattle.smt_syntax.specs.declared.command.SmtCommand as whole
 use Rattle.smt_syntax.specs.declared.command.SmtCommand.TheVariants as command
-use Rattle.smt_syntax.specs.Trees.{ExpressionTree, ExpressionTrees, LocalTrees, LocalTree, True, False, Numeral, Decimal, Named, Apply, Divisible, Quantified, Let, expressions_of, locals_of}
+use Rattle.smt_syntax.specs.Trees.{ExpressionTree, ExpressionTrees, LocalTrees, LocalTree, True, False, Numeral, Decimal, Named, Apply, Divisible, Quantified, Let}
+use Rattle.smt_syntax.specs.TreeLists.{expressions_of, locals_of}
 use Rattle.smt_syntax.specs.Trees.{CommandTree, Choose, Ignored, Declare, Assert, Check, Values, Exit}
 
 -- one layer of an expression, with the trees of its parts in their places

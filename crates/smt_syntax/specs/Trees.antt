@@ -1,5 +1,5 @@
 -- Commands, terms and formulas as plain trees: what the code's values stand for, with no memory in it.
-use Rattle.std.specs.Prelude.{ℕ, List, [], ◌∷◌}
+use Rattle.std.specs.Prelude.{ℕ, List}
 use Rattle.formula_meaning.specs.declared.quantifier.Quantifier.{Quantifier}
 use Rattle.qe_syntax.specs.declared.tree.Literal.{Literal}
 use Rattle.smt_syntax.specs.declared.command.Sort.{Sort}
@@ -33,16 +33,6 @@ mutual
 pub record LocalTree : Type 0 where
   pub name : List ℕ
   pub value : ExpressionTree
-
--- the members of a list, as the members that an operator takes
-abbrev pub expressions_of : List ExpressionTree → ExpressionTrees
-expressions_of [] = none
-expressions_of (e ∷ es) = also e (expressions_of es)
-
--- the members of a list, as the names of a let
-abbrev pub locals_of : List LocalTree → LocalTrees
-locals_of [] = no_local
-locals_of (l ∷ ls) = also_local l.name l.value (locals_of ls)
 
 -- a command of a script
 pub data CommandTree : Type 0 where

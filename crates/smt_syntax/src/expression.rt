@@ -1,5 +1,6 @@
 ghost use Rattle.std.specs.Prelude.{◌≡◌, map, IfOk};
-ghost use Rattle.smt_syntax.specs.Trees.{Divisible, Quantified, Let, expressions_of, locals_of};
+ghost use Rattle.smt_syntax.specs.Trees.{Divisible, Quantified, Let};
+ghost use Rattle.smt_syntax.specs.TreeLists.{expressions_of, locals_of};
 ghost use Rattle.smt_syntax.specs.CodeTrees.{expression_tree, expression_trees, local_tree, local_trees};
 
 use crate::names::SortedNames;

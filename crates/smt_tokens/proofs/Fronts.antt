@@ -6,7 +6,8 @@ use Rattle.std.proofs.lemmas.Bool.{ltb-true}
 use Rattle.qe_syntax.specs.Names.{is_digit}
 use Rattle.redlog_tokens.specs.Lexing.{is_blank}
 use Rattle.smt_tokens.specs.declared.lexer.Front.{Front}
-use Rattle.smt_tokens.specs.Lexing.{is_in_bars, symbol_length, fraction_length, closing_quote, closed_at, quoted, barred, keyword, simple, numbered_by, numbered, front, size}
+use Rattle.smt_tokens.specs.Lexing.{is_in_bars, symbol_length, fraction_length, closing_quote, closed_at, quoted, barred, keyword, simple, numbered_by, numbered, front}
+use Rattle.smt_tokens.specs.Fronts.{size}
 
 pub either : (P : Front → Type 0) (p : Bool) (f g : Front) → (p ≡ true → P f) → (p ≡ false → P g) → P (if p then f else g)
 either P true f g x y = x refl

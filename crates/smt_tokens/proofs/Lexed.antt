@@ -4,7 +4,8 @@ use Rattle.smt_tokens.specs.declared.lexer.Front.{Front}
 use Rattle.smt_tokens.specs.declared.lexer.Front.TheVariants as found
 use Rattle.smt_tokens.specs.declared.token.SmtLexeme.{SmtLexeme}
 use Rattle.smt_tokens.specs.declared.token.SmtToken.{SmtToken}
-use Rattle.smt_tokens.specs.Lexing.{front, size, Lexes, over, spaced, taken}
+use Rattle.smt_tokens.specs.Lexing.{front, Lexes, over, spaced, taken}
+use Rattle.smt_tokens.specs.Fronts.{size}
 use Rattle.smt_tokens.proofs.Fronts.{front_size}
 
 space_apart : {f : Front} {token : SmtToken} {m n : ℕ} → f ≡ found.Space n → f ≡ found.Token token m → ⊥

@@ -7,7 +7,8 @@ use Rattle.redlog_tokens.proofs.Longest.{both, one_of}
 use Rattle.smt_tokens.specs.declared.lexer.Front.{Front}
 use Rattle.smt_tokens.specs.declared.lexer.Front.TheVariants as found
 use Rattle.smt_tokens.specs.declared.token.SmtLexeme.{SmtLexeme}
-use Rattle.smt_tokens.specs.Lexing.{is_symbol_part, is_in_bars, symbol_length, fraction_length, closing_quote, closed_at, quoted, barred, keyword, simple, numbered_by, numbered, front, size, Lexes, over, spaced, taken}
+use Rattle.smt_tokens.specs.Lexing.{is_symbol_part, is_in_bars, symbol_length, fraction_length, closing_quote, closed_at, quoted, barred, keyword, simple, numbered_by, numbered, front, Lexes, over, spaced, taken}
+use Rattle.smt_tokens.specs.Fronts.{size}
 use Rattle.smt_tokens.specs.Longest.{IsQuoted, nothing, other, doubled, is_barred, IsNumeral, IsSimple, IsToken, opening, closing, numeral, decimal, string, simple as simple_text, barred as barred_text, keyword as keyword_text, IsLongest, AreLongest}
 use Rattle.std.proofs.lemmas.Bool.{ltb-false, eqb-true}
 use Rattle.std.proofs.lemmas.List.Prefix.{front_rest}

@@ -5,7 +5,8 @@ use Rattle.smt_tokens.specs.declared.lexer.Front.{Front}
 use Rattle.smt_tokens.specs.declared.lexer.Front.TheVariants as found
 use Rattle.smt_tokens.specs.declared.token.SmtLexeme.{SmtLexeme}
 use Rattle.smt_tokens.specs.declared.token.SmtToken.{SmtToken}
-use Rattle.smt_tokens.specs.Lexing.{IsFront, size, Lexes, over, spaced, taken, LexesFrom}
+use Rattle.smt_tokens.specs.Lexing.{Lexes, over, spaced, taken}
+use Rattle.smt_tokens.specs.Fronts.{IsFront, size, LexesFrom}
 
 lexes_space : (rest : List ℕ) (at n : ℕ) {ts : List SmtLexeme} → IsFront rest (found.Space n) → Lexes (drop n rest) (at + n) ts → Lexes rest at ts
 lexes_space [] at n h l = absurd h

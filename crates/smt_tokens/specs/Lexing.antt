@@ -104,23 +104,9 @@ front b bs =
     else (if b == 58 then keyword bs
     else simple (b ∷ bs))))))))
 
--- the number of bytes of what stands at the front
-abbrev pub size : Front → ℕ
-size (found.Space n) = n
-size (found.Token token n) = n
-
--- what stands at the front of the bytes, of which there is one
-abbrev pub IsFront : List ℕ → Front → Type 0
-IsFront [] f = ⊥
-IsFront (b ∷ bs) f = front b bs ≡ f
-
 -- the bytes, of which the first stands at this place, spell these tokens, bad ones among them
 pub data Lexes : List ℕ → ℕ → List SmtLexeme → Type 0 where
   over : {at : ℕ} → Lexes [] at []
   spaced : {b : ℕ} {bs : List ℕ} {at n : ℕ} {ts : List SmtLexeme} → front b bs ≡ found.Space n → Lexes (drop n (b ∷ bs)) (at + n) ts → Lexes (b ∷ bs) at ts
   taken : {b : ℕ} {bs : List ℕ} {at n : ℕ} {t : SmtLexeme} {ts : List SmtLexeme} → front b bs ≡ found.Token t.token n → t.start ≡ at → t.end ≡ at + n
       → Lexes (drop n (b ∷ bs)) (at + n) ts → Lexes (b ∷ bs) at (t ∷ ts)
-
--- the bytes from this place on spell these tokens
-abbrev pub LexesFrom : List ℕ → ℕ → List SmtLexeme → Type 0
-LexesFrom script from = Lexes (drop from script) from

@@ -1,4 +1,5 @@
 pub mod Lexing
+pub mod Fronts
 pub mod Longest
 pub mod Commands
 pub mod Begun

@@ -1,6 +1,7 @@
 ghost use Rattle.std.specs.Prelude.{◌≡◌, ◌+◌, ◌<◌, ◌≤◌, List, [], ◌∷◌, length, IfSome, MatchOption};
 ghost use Rattle.smt_tokens.specs.declared.token.SmtLexeme.{SmtLexeme};
-ghost use Rattle.smt_tokens.specs.Lexing.{front, size, IsFront, LexesFrom};
+ghost use Rattle.smt_tokens.specs.Lexing.{front};
+ghost use Rattle.smt_tokens.specs.Fronts.{size, IsFront, LexesFrom};
 
 use crate::number::numbered;
 use crate::text::{barred, keyword, quoted, simple};

@@ -4,7 +4,8 @@ ghost use Rattle.std.specs.Prelude.{◌≡◌, ◌+◌, ◌-◌, ◌^◌, ◌<�
 ghost use Rattle.std.specs.List.{prefix_len};
 ghost use Rattle.qe_syntax.specs.Names.{is_digit};
 ghost use Rattle.redlog_tokens.specs.Lexing.{as_literal, literal_of};
-ghost use Rattle.smt_tokens.specs.Lexing.{fraction_length, is_padded, number, numbered, size};
+ghost use Rattle.smt_tokens.specs.Lexing.{fraction_length, is_padded, number, numbered};
+ghost use Rattle.smt_tokens.specs.Fronts.{size};
 
 use crate::lexer::Front;
 use crate::token::SmtToken;

@@ -2,7 +2,8 @@
 
 ghost use Rattle.std.specs.Prelude.{◌≡◌, ◌+◌, ◌<◌, ◌≤◌, ◌==◌, [], length, codes, IfSome};
 ghost use Rattle.std.specs.List.{prefix_len, list_any};
-ghost use Rattle.smt_tokens.specs.Lexing.{is_symbol_part, is_in_bars, begins_with_digit, symbol_length, closing_quote, symbol, in_bars, simple, keyword, barred, quoted, size};
+ghost use Rattle.smt_tokens.specs.Lexing.{is_symbol_part, is_in_bars, begins_with_digit, symbol_length, closing_quote, symbol, in_bars, simple, keyword, barred, quoted};
+ghost use Rattle.smt_tokens.specs.Fronts.{size};
 
 use crate::lexer::Front;
 use crate::token::SmtToken;

@@ -24,7 +24,8 @@ use Rattle.formula_resolving.specs.declared.parts.Pair.TheVariants as pair
 use Rattle.formula_resolving.specs.declared.parts.Part.{Part}
 use Rattle.formula_resolving.specs.Connectives.{paired}
 use Rattle.formula_resolving.specs.Parts.{IsPart}
-use Rattle.smt_meaning.specs.Levels.{level, levels, IsLevelBelow, closed}
+use Rattle.smt_meaning.specs.Levels.{level, levels, closed}
+use Rattle.smt_meaning.specs.LevelsBelow.{IsLevelBelow}
 use Rattle.smt_meaning.specs.Nodes.{formula_nodes}
 use Rattle.smt_meaning.specs.Shapes.{comparison, divides}
 use Rattle.smt_meaning.proofs.Levels.{all_first, all_second, level_alone}

@@ -16,7 +16,8 @@ use Rattle.formula_resolving.specs.MetCauses.{flag, either, no_causes}
 use Rattle.formula_resolving.specs.Parts.{IsPart, AreMembers}
 use Rattle.formula_resolving.proofs.FirstCause.{none_met}
 use Rattle.formula_resolving.proofs.PartLaws.{part_stays, no_members, one_member_more}
-use Rattle.smt_meaning.specs.Levels.{levels, IsLevelBelow, AreLevelsBelow}
+use Rattle.smt_meaning.specs.Levels.{levels}
+use Rattle.smt_meaning.specs.LevelsBelow.{IsLevelBelow, AreLevelsBelow}
 use Rattle.smt_meaning.specs.Nodes.{formula_nodes, formulas_nodes}
 use Rattle.smt_meaning.specs.Shapes.{joined_of}
 use Rattle.smt_meaning.proofs.Levels.{all_append, all_first, all_second}

@@ -3,7 +3,8 @@ use Rattle.std.proofs.Common.{◌≡◌, ◌≤◌, ◌<◌, ◌+◌, ℕ, suc, 
 use Rattle.smt_syntax.specs.declared.expression.Expression as code
 use Rattle.smt_syntax.specs.declared.expression.LocalValue as local
 use Rattle.smt_syntax.specs.CodeTrees.{expression_tree, local_tree}
-use Rattle.smt_syntax.specs.Trees.{ExpressionTree, ExpressionTrees, LocalTrees, True, False, Numeral, Decimal, Named, Apply, Divisible, Quantified, Let, none, also, no_local, also_local, expressions_of, locals_of}
+use Rattle.smt_syntax.specs.Trees.{ExpressionTree, ExpressionTrees, LocalTrees, True, False, Numeral, Decimal, Named, Apply, Divisible, Quantified, Let, none, also, no_local, also_local}
+use Rattle.smt_syntax.specs.TreeLists.{expressions_of, locals_of}
 
 abbrev mutual
   pub expression_size : ExpressionTree → ℕ

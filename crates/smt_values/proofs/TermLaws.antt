@@ -10,7 +10,8 @@ use Rattle.written_atoms.specs.Term.{IsTermRead, IsOpposite, IsOver, IsTimes, Is
 use Rattle.written_atoms.specs.declared.term.ReadTerm.{ReadTerm}
 use Rattle.written_atoms.specs.declared.term.ReadSum.{ReadSum}
 use Rattle.written_atoms.proofs.Readings.{SumLeft, ProductLeft, negative_read, quotient_read, sum_begun, sum_more, sum_whole, product_begins, product_goes_on, product_ends}
-use Rattle.smt_meaning.specs.Levels.{level, levels, IsLevelBelow, AreLevelsBelow}
+use Rattle.smt_meaning.specs.Levels.{level, levels}
+use Rattle.smt_meaning.specs.LevelsBelow.{IsLevelBelow, AreLevelsBelow}
 use Rattle.smt_meaning.specs.Nodes.{term_nodes, terms_nodes}
 use Rattle.smt_meaning.proofs.Levels.{all_first, all_second, level_alone}
 use Rattle.smt_values.specs.declared.sized.Sized.{Sized}

@@ -11,7 +11,8 @@ use Rattle.written_atoms.specs.Term.{IsTermRead}
 use Rattle.written_atoms.specs.declared.term.ReadTerm.{ReadTerm}
 use Rattle.formula_resolving.specs.Parts.{IsPart}
 use Rattle.formula_resolving.specs.declared.parts.Part.{Part}
-use Rattle.smt_meaning.specs.Levels.{levels, AreLevelsBelow}
+use Rattle.smt_meaning.specs.Levels.{levels}
+use Rattle.smt_meaning.specs.LevelsBelow.{AreLevelsBelow}
 use Rattle.smt_meaning.specs.Nodes.{term_nodes, formula_nodes, formulas_nodes}
 use Rattle.smt_values.specs.declared.parts.Parts.{Parts}
 use Rattle.smt_values.specs.declared.sized.Sized.{Sized}

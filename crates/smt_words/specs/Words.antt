@@ -1,6 +1,5 @@
 -- The symbols that stand for no name, and the logics.
 use Rattle.std.specs.Prelude.{ℕ, List, [], ◌∷◌, Option, Some, None, codes, bytes_eq, if◌then◌else◌}
-use Rattle.std.specs.Borrow.{Bor}
 use Rattle.formula_meaning.specs.declared.quantifier.Quantifier.TheVariants as quantifier
 use Rattle.smt_syntax.specs.declared.command.Sort.{Sort}
 use Rattle.smt_syntax.specs.declared.command.Sort.TheVariants as sort
@@ -30,10 +29,6 @@ known text (w ∷ ws) = if bytes_eq text w.0 then Some w.1 else known text ws
 -- what a symbol is, where it is reserved
 unfoldable pub word_of : List ℕ → Option Word
 word_of text = known text words
-
--- a reserved symbol of the code with what it is
-abbrev pub word_pair : Bor (List ℕ) × Word → List ℕ × Word
-word_pair w = (w.0.now, w.1)
 
 -- the sort of the numbers of a logic
 unfoldable pub logic_of : List ℕ → Option Sort

@@ -1,5 +1,6 @@
 ghost use Rattle.std.specs.Prelude.{◌≡◌, map, bytes_eq};
-ghost use Rattle.smt_words.specs.Words.{words, known, word_of, word_pair, logic_of};
+ghost use Rattle.smt_words.specs.Words.{words, known, word_of, logic_of};
+ghost use Rattle.smt_words.specs.WordPairs.{word_pair};
 
 use smt_syntax::{Operator, Quantifier, Sort};
 

@@ -20,19 +20,19 @@ use Rattle.redlog_printer.specs.Writing.{text_limit}
 use Rattle.smt_syntax.specs.declared.command.Sort.{Sort}
 use Rattle.smt_syntax.specs.declared.names.SortedName.{SortedName}
 use Rattle.smt_syntax.specs.Trees.{ExpressionTree, CommandTree, Choose, Declare, Assert, Values}
-use Rattle.smt_meaning.specs.Atoms.{quantified_names}
-use Rattle.smt_meaning.specs.Levels.{AreLevelsBelow}
+use Rattle.smt_meaning.specs.QuantifiedNames.{quantified_names}
+use Rattle.smt_meaning.specs.LevelsBelow.{AreLevelsBelow}
 use Rattle.smt_meaning.specs.Meaning.{as_formula, declared_scope, meaning, sort_name}
 use Rattle.smt_meaning.specs.Operators.{Formula}
 use Rattle.smt_meaning.specs.Proper.{IsProper}
 use Rattle.smt_meaning.proofs.MeaningNames.{as_formula_there, levels_suffice}
-use Rattle.smt_resolving.specs.Asserted.{IsAsserted, IsAssertedAs, IsRefusedFor}
+use Rattle.smt_resolving.specs.Outcomes.{IsAsserted, IsAssertedAs, IsRefusedFor}
 use Rattle.smt_resolving.specs.declared.error.AssertError.{AssertError}
 use Rattle.smt_runs.specs.State.{State, theory_of}
 use Rattle.smt_runs.specs.State as state
 use Rattle.smt_runs.specs.Replies.{chooses, declares, asserts, values}
 use Rattle.smt_runs.specs.Texts.{values_text}
-use Rattle.smt_runs.specs.Words.{of_assertion}
+use Rattle.smt_runs.specs.AssertionWords.{of_assertion}
 use Rattle.smt_runs.specs.declared.error.SmtError.TheVariants as error
 use Rattle.smt_runs.specs.declared.reply.SmtReply.TheVariants as reply
 use Rattle.smt_sentences.proofs.Resolvable.{asserted_resolvable}

@@ -17,7 +17,8 @@ use Rattle.smt_syntax.specs.declared.names.SortedName.{SortedName}
 use Rattle.smt_syntax.specs.Trees.{ExpressionTree, CommandTree, Choose, Ignored, Declare, Assert, Check, Values, Exit}
 use Rattle.smt_meaning.specs.Meaning.{sort_name}
 use Rattle.smt_meaning.specs.Nodes.{formula_nodes}
-use Rattle.smt_resolving.specs.Asserted.{assertion_levels, is_undeclared, MeansFormula, MeansNoFormula, MeansTooMany, MeetsFirst, IsRefusedFor}
+use Rattle.smt_resolving.specs.Asserted.{assertion_levels, is_undeclared, MeansFormula, MeansNoFormula, MeansTooMany, MeetsFirst}
+use Rattle.smt_resolving.specs.Outcomes.{IsRefusedFor}
 use Rattle.smt_resolving.specs.declared.error.AssertError.{AssertError}
 use Rattle.smt_resolving.specs.declared.error.AssertError.TheVariants as assertion
 use Rattle.smt_runs.specs.declared.error.SmtError.TheVariants as error
@@ -26,7 +27,7 @@ use Rattle.smt_runs.specs.Sentence.{sentence}
 use Rattle.smt_runs.specs.State.{State, is_declared}
 use Rattle.smt_runs.specs.State as state
 use Rattle.smt_runs.specs.Texts.{values_text}
-use Rattle.smt_runs.specs.Words.{of_assertion}
+use Rattle.smt_runs.specs.AssertionWords.{of_assertion}
 
 never : ⊥ → ⊥
 never h = h

@@ -9,7 +9,7 @@ use Rattle.formula_tree.specs.Makers.{Keeps}
 use Rattle.formula_tree.specs.Resolving.{formula_variables}
 use Rattle.formula_store.specs.declared.id.FormulaId.{FormulaId}
 use Rattle.formula_store.specs.Nodes.{tree, IsId}
-use Rattle.smt_meaning.specs.Levels.{AreLevelsBelow}
+use Rattle.smt_meaning.specs.LevelsBelow.{AreLevelsBelow}
 use Rattle.smt_runs.specs.State.{State}
 use Rattle.smt_sentences.specs.Resolvable.{IsResolvable}
 use Rattle.smt_sentences.specs.Resolved.{numbered, sentence_levels}

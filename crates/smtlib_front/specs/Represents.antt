@@ -9,7 +9,8 @@ use Rattle.formula_tree.specs.Makers.{IsMade}
 use Rattle.formula_tree.specs.Resolving.{formula_variables, resolve}
 use Rattle.formula_store.specs.declared.id.FormulaId.{FormulaId}
 use Rattle.formula_store.specs.Nodes.{tree, IsId}
-use Rattle.smt_meaning.specs.Levels.{levels, AreLevelsBelow}
+use Rattle.smt_meaning.specs.Levels.{levels}
+use Rattle.smt_meaning.specs.LevelsBelow.{AreLevelsBelow}
 use Rattle.smt_runs.specs.State.{State}
 use Rattle.smt_runs.specs.State as state
 use Rattle.smt_sentences.specs.Resolvable.{IsResolvable}

@@ -4,7 +4,7 @@ use Rattle.qe_syntax.specs.Trees.{FormulaTree, formulas_of}
 use Rattle.qe_syntax.specs.CodeTrees.{formula_tree}
 use Rattle.atom_normal.specs.Atoms.{context_of}
 use Rattle.formula_tree.specs.Makers.{Keeps}
-use Rattle.formula_resolving.specs.Refusals.{trees_bound}
+use Rattle.formula_resolving.specs.BoundIds.{trees_bound}
 use Rattle.formula_resolving.specs.Connectives.{Opens}
 use Rattle.formula_resolving.specs.Parts.{IsPart, AreMembers}
 use Rattle.formula_resolving.proofs.reading.+reading.Given as goal

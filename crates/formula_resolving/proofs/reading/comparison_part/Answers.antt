@@ -1,4 +1,4 @@
-use Rattle.formula_resolving.specs.Refusals.{trees_bound}
+use Rattle.formula_resolving.specs.BoundIds.{trees_bound}
 use Rattle.formula_resolving.proofs.PartLaws.{ok_map}
 use Rattle.formula_resolving.proofs.AtomLaws.{read_proper, compare_part}
 use Rattle.formula_resolving.proofs.reading.comparison_part.Goals as goal

@@ -1,5 +1,5 @@
 use Rattle.std.proofs.Common.{ap, refl}
-use Rattle.formula_resolving.specs.Refusals.{trees_bound}
+use Rattle.formula_resolving.specs.BoundIds.{trees_bound}
 use Rattle.formula_resolving.specs.MetCauses.{atom_causes}
 use Rattle.formula_resolving.proofs.PartLaws.{finished_as, ok_map}
 use Rattle.formula_resolving.proofs.AtomLaws.{read_proper, congruence_part}

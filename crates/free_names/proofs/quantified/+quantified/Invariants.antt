@@ -6,7 +6,7 @@ use Rattle.qe_syntax.specs.CodeTrees.{formula_tree}
 use Rattle.formula_tree.specs.Causes.{atom_in_place}
 use Rattle.formula_tree.specs.Quantified.{some_quantifier}
 use Rattle.formula_store.specs.Nodes.{tree}
-use Rattle.formula_resolving.specs.Refusals.{trees_bound}
+use Rattle.formula_resolving.specs.BoundIds.{trees_bound}
 use Rattle.free_names.proofs.quantified.+quantified.Given as goal
 
 -- none of the formulas so far has a quantifier

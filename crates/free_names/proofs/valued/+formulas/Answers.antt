@@ -10,7 +10,7 @@ use Rattle.qe_syntax.proofs.EntryLists.{rest_at}
 use Rattle.qe_syntax.proofs.Quantified.{matrix_unquantified}
 use Rattle.formula_tree.specs.Resolving.{place, MentionsNumber}
 use Rattle.formula_store.specs.Nodes.{tree}
-use Rattle.formula_resolving.specs.Refusals.{trees_bound}
+use Rattle.formula_resolving.specs.BoundIds.{trees_bound}
 use Rattle.formula_resolving.proofs.Measures.{formula_below, matrix_nodes}
 use Rattle.free_names.specs.Places.{IsFreeHere, AreFreeHere, in_scope}
 use Rattle.free_names.specs.Scopes.{AreAmong}

@@ -3,7 +3,7 @@ use Rattle.formula_meaning.specs.Context.{Context}
 use Rattle.formula_meaning.specs.Every.{Every}
 use Rattle.atom_normal.specs.Atoms.{context_of}
 use Rattle.atom_normal.specs.NormalForm.{IsNormal}
-use Rattle.formula_resolving.specs.Refusals.{trees_bound}
+use Rattle.formula_resolving.specs.BoundIds.{trees_bound}
 use Rattle.formula_store.specs.Nodes.{tree}
 use Rattle.formula_tree.specs.ResolvedLaws.{HasNormalTrees}
 use Rattle.formula_tree.proofs.ResolvedTruth.{resolving_is_normal}

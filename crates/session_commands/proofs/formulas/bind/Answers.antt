@@ -1,5 +1,5 @@
 use Rattle.std.proofs.Common.{sym, subst}
-use Rattle.formula_resolving.specs.Refusals.{trees_bound}
+use Rattle.formula_resolving.specs.BoundIds.{trees_bound}
 use Rattle.formula_store.specs.Nodes.{tree}
 use Rattle.session_meaning.specs.Causes.{HasNoRoom}
 use Rattle.point_queries.proofs.FromSessionState.{no_room}

@@ -4,7 +4,7 @@ use Rattle.formula_meaning.specs.Formula as plain
 use Rattle.atom_normal.specs.Atoms.{context_of}
 use Rattle.qe_syntax.specs.Trees.{Number}
 use Rattle.formula_resolving.proofs.PartLaws.{keeps_then}
-use Rattle.smt_syntax.specs.Trees.{expressions_of, locals_of}
+use Rattle.smt_syntax.specs.TreeLists.{expressions_of, locals_of}
 use Rattle.smt_syntax.specs.CodeTrees.{expression_tree, local_tree}
 use Rattle.smt_syntax.proofs.TreeEquations.{tree-True, tree-False, tree-Numeral}
 use Rattle.smt_meaning.specs.Meaning.{meaning, meanings, local_scope, and_then}

@@ -2,7 +2,7 @@ use Rattle.std.proofs.Common.{◌≡◌, ◌+◌, ◌*◌, map, drop}
 use Rattle.atom_normal.specs.Atoms.{context_of}
 use Rattle.formula_tree.specs.Makers.{Keeps}
 use Rattle.smt_syntax.specs.CodeTrees.{expression_tree, local_tree}
-use Rattle.smt_syntax.specs.Trees.{expressions_of, locals_of}
+use Rattle.smt_syntax.specs.TreeLists.{expressions_of, locals_of}
 use Rattle.smt_meaning.specs.Meaning.{Scope}
 use Rattle.smt_values.specs.Readings.{IsScope, HaveMemberIds, HaveFrameIds}
 use Rattle.smt_values.proofs.MemberLaws.{MemberState, LocalState}

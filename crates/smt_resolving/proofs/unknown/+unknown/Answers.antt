@@ -1,5 +1,5 @@
 use Rattle.std.proofs.Common.{◌+◌, ◌||◌, map, drop, sym, ap, ◌∙◌, arith}
-use Rattle.smt_syntax.specs.Trees.{locals_of}
+use Rattle.smt_syntax.specs.TreeLists.{locals_of}
 use Rattle.smt_syntax.specs.CodeTrees.{expression_tree, local_tree}
 use Rattle.smt_meaning.specs.Undeclared.{known_inside, known_locals, has_unknown, values_have_unknown}
 use Rattle.smt_values.proofs.Sizes.{expression_size, member_size, local_size}

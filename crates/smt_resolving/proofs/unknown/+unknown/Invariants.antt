@@ -1,8 +1,8 @@
 use Rattle.std.proofs.Common.{◌≡◌, ◌+◌, ◌*◌, map, drop}
 use Rattle.smt_syntax.specs.CodeTrees.{expression_tree, local_tree}
-use Rattle.smt_syntax.specs.Trees.{expressions_of, locals_of}
+use Rattle.smt_syntax.specs.TreeLists.{expressions_of, locals_of}
 use Rattle.smt_meaning.specs.Undeclared.{Known, have_unknown, values_have_unknown}
-use Rattle.smt_resolving.specs.Known.{IsKnownAt}
+use Rattle.smt_resolving.specs.KnownAt.{IsKnownAt}
 use Rattle.smt_values.proofs.Sizes.{expression_size, expressions_size, locals_size}
 use Rattle.smt_resolving.proofs.unknown.+unknown.Given as goal
 

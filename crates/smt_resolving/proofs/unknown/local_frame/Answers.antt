@@ -1,6 +1,6 @@
 use Rattle.std.proofs.Common.{map, take, ◌∙◌}
 use Rattle.smt_syntax.specs.CodeTrees.{local_tree}
-use Rattle.smt_syntax.specs.Trees.{locals_of}
+use Rattle.smt_syntax.specs.TreeLists.{locals_of}
 use Rattle.smt_meaning.specs.Undeclared.{known_locals}
 use Rattle.smt_resolving.proofs.KnownLaws.{local_last, known_more}
 use Rattle.smt_resolving.proofs.unknown.local_frame.Goals as goal

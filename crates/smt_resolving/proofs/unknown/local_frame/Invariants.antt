@@ -2,7 +2,7 @@ use Rattle.std.proofs.Common.{◌≡◌, ◌||◌, ℕ, List, take, map}
 use Rattle.std.specs.Prelude.{is_some}
 use Rattle.formula_tree.specs.Bindings.{bound_to}
 use Rattle.smt_syntax.specs.CodeTrees.{local_tree}
-use Rattle.smt_syntax.specs.Trees.{locals_of}
+use Rattle.smt_syntax.specs.TreeLists.{locals_of}
 use Rattle.smt_meaning.specs.Undeclared.{Known, known_locals}
 use Rattle.smt_resolving.proofs.unknown.local_frame.Given as goal
 

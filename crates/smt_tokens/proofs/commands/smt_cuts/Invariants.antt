@@ -1,7 +1,7 @@
 use Rattle.std.proofs.Common.{◌-◌, ◌≤◌, List, ◌++◌, length}
 use Rattle.smt_tokens.specs.declared.token.SmtCut.{SmtCut}
 use Rattle.smt_tokens.specs.declared.token.SmtLexeme.{SmtLexeme}
-use Rattle.smt_tokens.specs.Lexing.{LexesFrom}
+use Rattle.smt_tokens.specs.Fronts.{LexesFrom}
 use Rattle.smt_tokens.specs.Commands.{AreCommands}
 use Rattle.smt_tokens.specs.Begun.{GoesOn, open_inside}
 use Rattle.smt_tokens.proofs.commands.smt_cuts.Given as goal

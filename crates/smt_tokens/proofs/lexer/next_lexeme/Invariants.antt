@@ -1,6 +1,6 @@
 use Rattle.std.proofs.Common.{◌-◌, ◌≤◌, List, length}
 use Rattle.smt_tokens.specs.declared.token.SmtLexeme.{SmtLexeme}
-use Rattle.smt_tokens.specs.Lexing.{LexesFrom}
+use Rattle.smt_tokens.specs.Fronts.{LexesFrom}
 use Rattle.smt_tokens.proofs.lexer.next_lexeme.Given as goal
 
 abbrev pub invariant-spaces : goal.invariant-spaces

@@ -1,5 +1,6 @@
 use Rattle.std.proofs.Common.{◌≡◌, map, drop}
-use Rattle.smt_words.specs.Words.{known, word_pair}
+use Rattle.smt_words.specs.Words.{known}
+use Rattle.smt_words.specs.WordPairs.{word_pair}
 use Rattle.smt_words.proofs.word.among.Given as goal
 
 abbrev pub invariant-entries : goal.invariant-entries

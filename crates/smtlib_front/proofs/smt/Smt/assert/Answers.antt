@@ -1,6 +1,6 @@
 use Rattle.std.proofs.Common.{rules, ◌≡◌, Err, sym, subst}
 use Rattle.smt_runs.specs.State.{State}
-use Rattle.smt_runs.specs.Words.{of_assertion}
+use Rattle.smt_runs.specs.AssertionWords.{of_assertion}
 use Rattle.smt_runs.specs.declared.error.SmtError.TheVariants as error
 use Rattle.smt_runs.specs.declared.reply.SmtReply.TheVariants as reply
 use Rattle.smt_syntax.specs.CodeTrees.{expression_tree}

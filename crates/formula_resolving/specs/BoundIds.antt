@@ -1,0 +1,13 @@
+-- What is bound as ids, and the trees that these ids stand for.
+use Rattle.std.specs.Prelude.{ℕ, List, map}
+use Rattle.std.specs.List.{AllByRecursion}
+use Rattle.formula_meaning.specs.Tree.{Tree}
+use Rattle.formula_tree.specs.Resolving.{BoundTrees}
+
+-- what is bound are ids
+abbrev pub AreIds : {Id : Type 0} → (Id → Type 0) → List (List ℕ × Id) → Type 0
+AreIds is_id bound = AllByRecursion (λ e. is_id e.1) bound
+
+-- the trees of what is bound
+abbrev pub trees_bound : {Id : Type 0} → (Id → Tree) → List (List ℕ × Id) → BoundTrees
+trees_bound tree bound = map (λ e. (e.0, tree e.1)) bound
