@@ -13,8 +13,8 @@ use Rattle.qe_syntax.specs.Trees.{FormulaTrees}
 use Rattle.atom_normal.proofs.Stepped.{ok_map}
 use Rattle.statement_syntax.specs.ConstraintLists.{AreConstraints}
 use Rattle.statement_syntax.specs.Statements.{Certify, Check}
-use Rattle.formula_tree.specs.Names.{with_name}
-use Rattle.formula_tree.specs.Resolving.{all_variables, place}
+use Rattle.formula_tree.specs.Names.{with_name, place}
+use Rattle.resolved_formulas.specs.Resolving.{all_variables}
 use Rattle.farkas_theory.specs.Constraints.{Constraint}
 use Rattle.farkas_theory.specs.Farkas.{IsFarkas, nothing, AreAllowed, SumPasses}
 use Rattle.farkas_theory.proofs.Refutes.{refutes}

@@ -10,9 +10,10 @@ use Rattle.qe_syntax.specs.Trees.{TermTree, Compare, Cong, Ncong, Bound, Formula
 use Rattle.statement_syntax.specs.Constraints.{bounds, is_constraint}
 use Rattle.statement_syntax.specs.ConstraintLists.{AreConstraints}
 use Rattle.statement_syntax.specs.Statements.{Certify}
-use Rattle.formula_tree.specs.Causes.{CongruenceInFields, IsBadModulus, IsTooDeep}
-use Rattle.formula_tree.specs.Resolving.{BoundTrees, place}
-use Rattle.formula_tree.specs.NamesAfter.{names_after}
+use Rattle.resolved_formulas.specs.Causes.{CongruenceInFields, IsBadModulus, IsTooDeep}
+use Rattle.resolved_formulas.specs.Resolving.{BoundTrees}
+use Rattle.formula_tree.specs.Names.{place}
+use Rattle.resolved_formulas.specs.NamesAfter.{names_after}
 use Rattle.problem_reading.specs.FromFormulaResolving.{StaticError}
 use Rattle.problem_reading.specs.FromFormulaResolving.static_error_variants as static
 use Rattle.redlog_printer.specs.Writing.{text_limit}

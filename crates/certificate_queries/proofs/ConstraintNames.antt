@@ -13,11 +13,11 @@ use Rattle.qe_syntax.specs.Value.{same_name}
 use Rattle.qe_syntax.specs.Valued.{IsIn}
 use Rattle.qe_syntax.proofs.EntryLists.{each_push, some_split}
 use Rattle.statement_syntax.specs.ConstraintLists.{AreConstraints}
-use Rattle.formula_tree.specs.Names.{with_name}
-use Rattle.formula_tree.specs.Resolving.{place, resolve, formula_variables, all_variables, IsFreeInPlace}
-use Rattle.formula_tree.proofs.Nowhere.{mentioned_have}
-use Rattle.formula_tree.proofs.PlaceLaws.{same_itself, slice_place, in_either, after_has, after_distinct}
-use Rattle.formula_tree.proofs.ResolvedNames.{resolving_brings_no_name}
+use Rattle.formula_tree.specs.Names.{with_name, place}
+use Rattle.resolved_formulas.specs.Resolving.{resolve, formula_variables, all_variables, IsFreeInPlace}
+use Rattle.resolved_formulas.proofs.Nowhere.{mentioned_have}
+use Rattle.resolved_formulas.proofs.PlaceLaws.{same_itself, slice_place, in_either, after_has, after_distinct}
+use Rattle.resolved_formulas.proofs.ResolvedNames.{resolving_brings_no_name}
 use Rattle.fourier_motzkin.specs.Theorems.{AreOver}
 use Rattle.sample_reference.specs.Values.{Value, value_names}
 use Rattle.problem_reading.specs.FromAnswerTexts.{AreValuesWithin}

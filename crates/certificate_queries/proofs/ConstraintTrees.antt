@@ -21,8 +21,9 @@ use Rattle.qe_syntax.specs.declared.tree.Relation.TheVariants as relation
 use Rattle.qe_syntax.specs.Trees.{FormulaTree}
 use Rattle.qe_syntax.specs.Value.{relation_of}
 use Rattle.statement_syntax.specs.Constraints.{bounds}
-use Rattle.formula_tree.specs.RationalForms.{RationalForm, Missing, formed_difference}
-use Rattle.formula_tree.specs.Resolving.{place, resolve, compared}
+use Rattle.resolved_formulas.specs.RationalForms.{RationalForm, Missing, formed_difference}
+use Rattle.resolved_formulas.specs.Resolving.{resolve, compared}
+use Rattle.formula_tree.specs.Names.{place}
 use Rattle.farkas_theory.specs.Meeting.{Meets}
 use Rattle.farkas_theory.specs.Farkas.{nothing}
 use Rattle.problem_reading.specs.FromSessionMeaning.{tree_constraint, State}

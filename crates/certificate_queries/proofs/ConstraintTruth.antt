@@ -9,8 +9,8 @@ use Rattle.formula_meaning.proofs.FreeNames.{tree_agrees}
 use Rattle.qe_syntax.specs.Trees.{FormulaTree, FormulaTrees}
 use Rattle.qe_syntax.specs.Value as written
 use Rattle.statement_syntax.specs.ConstraintLists.{AreConstraints}
-use Rattle.formula_tree.specs.Resolving.{at_names, resolve, bound_truth}
-use Rattle.formula_tree.proofs.PlaceLaws.{at_place}
+use Rattle.resolved_formulas.specs.Resolving.{at_names, resolve, bound_truth}
+use Rattle.resolved_formulas.proofs.PlaceLaws.{at_place}
 use Rattle.farkas_theory.specs.Meeting.{MeetsAll}
 use Rattle.problem_reading.specs.FromSessionMeaning.{AllTrueAt, constraints_of, by_names, State}
 use Rattle.problem_reading.specs.FromSessionState.{IsSound}

@@ -7,8 +7,8 @@ use Rattle.qe_syntax.specs.Value.{same_name}
 use Rattle.qe_syntax.specs.Writable.{AreWritableFormulas}
 use Rattle.statement_syntax.specs.Statements.{CommandTree}
 use Rattle.formula_tree.specs.Names.{with_name}
-use Rattle.formula_tree.specs.Resolving.{all_variables}
-use Rattle.formula_tree.proofs.PlaceLaws.{after_has, after_distinct}
+use Rattle.resolved_formulas.specs.Resolving.{all_variables}
+use Rattle.resolved_formulas.proofs.PlaceLaws.{after_has, after_distinct}
 use Rattle.problem_reading.specs.FromFormulaResolving.{Grows}
 use Rattle.problem_reading.specs.FromSessionMeaning.{Line, StatementError, State, with_names}
 use Rattle.problem_reading.specs.FromSessionState.{SessionState, state_of, IsSessionState, KeepsState}

@@ -9,7 +9,7 @@ ghost use Rattle.qe_syntax.specs.CodeTrees.{formula_tree};
 ghost use Rattle.qe_syntax.specs.Writable.{AreWritableFormulas};
 ghost use Rattle.statement_syntax.specs.ConstraintLists.{AreConstraints};
 ghost use Rattle.statement_syntax.specs.Statements.{Certify};
-ghost use Rattle.formula_tree.specs.Resolving.{place};
+ghost use Rattle.formula_tree.specs.Names.{place};
 ghost use Rattle.certificate_search.specs.Certificates.{certificate_of as meant_certificate, HasNumbersWithin};
 ghost use Rattle.problem_reading.specs.FromSessionMeaning.{constrained_names, IsCertificateAnswer, meaning, numbered};
 ghost use Rattle.problem_reading.specs.FromSessionState.{state_of, IsSessionState, KeepsState, GrowsState};

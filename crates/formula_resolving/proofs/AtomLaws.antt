@@ -17,8 +17,9 @@ use Rattle.formula_tree.specs.declared.shape.Shape.{Shape}
 use Rattle.formula_tree.specs.Shapes.{tree_over, IsProperShape}
 use Rattle.formula_tree.specs.Bindings.{bound_to}
 use Rattle.formula_tree.specs.Makers.{IsMade}
-use Rattle.formula_tree.specs.Causes.{HasNoTree, IsCongruence, atom_in_place}
-use Rattle.formula_tree.specs.Resolving.{BoundTrees, place, resolved_atom}
+use Rattle.resolved_formulas.specs.Causes.{HasNoTree, IsCongruence, atom_in_place}
+use Rattle.resolved_formulas.specs.Resolving.{BoundTrees, resolved_atom}
+use Rattle.formula_tree.specs.Names.{place}
 use Rattle.formula_resolving.specs.declared.error.StaticError.{StaticError}
 use Rattle.formula_resolving.specs.declared.error.StaticError.TheVariants.{Unbound, FormulaAsTerm, Nonlinear, Division, CongruenceContext, Modulus, Depth, Overflow, Memory}
 use Rattle.formula_resolving.specs.declared.causes.Causes.{Causes}

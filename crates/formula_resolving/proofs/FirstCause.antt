@@ -2,7 +2,7 @@
 use Rattle.std.proofs.Common.{◌≡◌, ◌⊎◌, inl, inr, ⊎_elim, ℕ, ◌<◌, Bool, true, false, ◌||◌, Option, Some, None, refl, arith}
 use Rattle.std.specs.Prelude.{is_some, nat_lt, ◌↔◌}
 use Rattle.std.specs.Bool.{MatchBool}
-use Rattle.formula_tree.specs.Causes.{most_height}
+use Rattle.resolved_formulas.specs.Causes.{most_height}
 use Rattle.formula_resolving.specs.declared.error.StaticError.{StaticError}
 use Rattle.formula_resolving.specs.declared.error.StaticError.TheVariants.{Unbound, FormulaAsTerm, Nonlinear, Division, CongruenceContext, Modulus, Depth, Overflow, Memory}
 use Rattle.formula_resolving.specs.declared.causes.Causes.{Causes}

@@ -10,7 +10,7 @@ use Rattle.qe_syntax.specs.CodeTrees.{formula_tree}
 use Rattle.qe_syntax.specs.Valued.{matrix_of}
 use Rattle.qe_syntax.proofs.TreeEquations.{formula-Ex, formula-All}
 use Rattle.qe_syntax.proofs.Quantified.{unquantified, no_prefix}
-use Rattle.formula_tree.specs.Resolving.{place}
+use Rattle.formula_tree.specs.Names.{place}
 use Rattle.formula_meaning.specs.declared.quantifier.Quantifier.{Quantifier}
 use Rattle.formula_meaning.specs.declared.quantifier.Quantifier.TheVariants.{Exists, ForAll}
 use Rattle.formula_meaning.specs.Shape.{quantified}

@@ -15,9 +15,10 @@ use Rattle.formula_tree.specs.declared.shape.Shape.TheVariants as shape
 use Rattle.formula_tree.specs.Trees.{members}
 use Rattle.formula_tree.specs.Shapes.{tree_over}
 use Rattle.formula_tree.specs.Makers.{IsMade, Keeps}
-use Rattle.formula_tree.specs.Somewhere.{SomewhereIn, SomeAtom}
-use Rattle.formula_tree.specs.Causes.{most_height, height_in_place, atom_in_place}
-use Rattle.formula_tree.specs.Resolving.{BoundTrees, place, resolve, resolved_atom}
+use Rattle.resolved_formulas.specs.Somewhere.{SomewhereIn, SomeAtom}
+use Rattle.resolved_formulas.specs.Causes.{most_height, height_in_place, atom_in_place}
+use Rattle.resolved_formulas.specs.Resolving.{BoundTrees, resolve, resolved_atom}
+use Rattle.formula_tree.specs.Names.{place}
 use Rattle.formula_resolving.specs.declared.error.StaticError.{StaticError}
 use Rattle.formula_resolving.specs.declared.causes.Causes.{Causes}
 use Rattle.formula_resolving.specs.declared.parts.Part.{Part}

@@ -11,12 +11,13 @@ use Rattle.qe_syntax.specs.Trees as term
 use Rattle.qe_syntax.specs.Trees.{TermTree, TermTrees, Number, Named, Sum, Product, Quotient, Power, Negative, WrittenAtom, Compare, Cong, Ncong, Bound, FormulaTree, FormulaTrees}
 use Rattle.qe_syntax.specs.Value.{HasName, HaveName, Mentions}
 use Rattle.formula_tree.specs.Bindings.{bound_to}
-use Rattle.formula_tree.specs.Somewhere.{Somewhere, SomewhereIn, SomeAtom}
-use Rattle.formula_tree.specs.Causes as cause
-use Rattle.formula_tree.specs.Causes.{most_height, height_in_place, IsBound, MentionsBound, IsCongruence, SomeTerm, HasPast, PassesInReading}
-use Rattle.formula_tree.specs.Accepted.{IsAccepted}
-use Rattle.formula_tree.specs.Resolving.{place, variables_of, variables_in, atom_variables, formula_variables, all_variables}
-use Rattle.formula_tree.specs.NamesAfter.{names_after}
+use Rattle.resolved_formulas.specs.Somewhere.{Somewhere, SomewhereIn, SomeAtom}
+use Rattle.resolved_formulas.specs.Causes as cause
+use Rattle.resolved_formulas.specs.Causes.{most_height, height_in_place, IsBound, MentionsBound, IsCongruence, SomeTerm, HasPast, PassesInReading}
+use Rattle.resolved_formulas.specs.Accepted.{IsAccepted}
+use Rattle.resolved_formulas.specs.Resolving.{variables_of, variables_in, atom_variables, formula_variables, all_variables}
+use Rattle.formula_tree.specs.Names.{place}
+use Rattle.resolved_formulas.specs.NamesAfter.{names_after}
 use Rattle.formula_resolving.specs.declared.error.StaticError.{StaticError}
 use Rattle.formula_resolving.specs.declared.error.StaticError.TheVariants.{Unbound, FormulaAsTerm, Nonlinear, Division, CongruenceContext, Modulus, Depth, Overflow, Memory}
 use Rattle.formula_resolving.specs.declared.causes.Causes.{Causes}

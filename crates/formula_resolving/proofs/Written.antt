@@ -10,7 +10,7 @@ use Rattle.qe_syntax.specs.declared.tree.Formula as written
 use Rattle.qe_syntax.specs.declared.tree.Formula.TheVariants as formula
 use Rattle.qe_syntax.specs.CodeTrees.{term_tree, formula_tree}
 use Rattle.qe_syntax.proofs.TreeEquations.{tree-Quotient, formula-Compare, formula-Cong, formula-Ncong, formula-Impl, formula-Repl, formula-Equiv, formula-Ex, formula-All}
-use Rattle.formula_tree.specs.Resolving.{variables_of, formula_variables}
+use Rattle.resolved_formulas.specs.Resolving.{variables_of, formula_variables}
 
 pub quotient_variables : (f : code.Term) (a b : Box code.Term Global) (x y : code.Term) → f ≡ term.Quotient a b → x ≡ a.value → y ≡ b.value → variables_of (term_tree f) ≡ variables_of (term_tree x) ++ variables_of (term_tree y)
 quotient_variables f a b x y e d k =

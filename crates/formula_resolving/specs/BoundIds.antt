@@ -2,7 +2,7 @@
 use Rattle.std.specs.Prelude.{ℕ, List, map}
 use Rattle.std.specs.List.{AllByRecursion}
 use Rattle.formula_meaning.specs.Tree.{Tree}
-use Rattle.formula_tree.specs.Resolving.{BoundTrees}
+use Rattle.resolved_formulas.specs.Resolving.{BoundTrees}
 
 -- what is bound are ids
 abbrev pub AreIds : {Id : Type 0} → (Id → Type 0) → List (List ℕ × Id) → Type 0

@@ -12,7 +12,7 @@ use Rattle.atom_normal.specs.declared.atoms.Normal.{Normal}
 use Rattle.atom_normal.specs.declared.atoms.Normal.TheVariants as normal
 use Rattle.formula_tree.specs.declared.shape.Shape.{Shape}
 use Rattle.formula_tree.specs.declared.shape.Shape.TheVariants as shape
-use Rattle.formula_tree.specs.Resolving.{place}
+use Rattle.formula_tree.specs.Names.{place}
 use Rattle.formula_resolving.specs.declared.parts.Pair.{Pair}
 use Rattle.formula_resolving.specs.declared.parts.Pair.TheVariants as pair
 use Rattle.formula_resolving.specs.declared.parts.Opening.{Opening}

@@ -2,7 +2,7 @@
 use Rattle.std.specs.Prelude.{ℕ, List}
 use Rattle.formula_meaning.specs.Context.{Context}
 use Rattle.qe_syntax.specs.Trees.{FormulaTree}
-use Rattle.formula_tree.specs.Resolving.{BoundTrees}
+use Rattle.resolved_formulas.specs.Resolving.{BoundTrees}
 use Rattle.formula_resolving.specs.declared.error.StaticError.{StaticError}
 use Rattle.formula_resolving.specs.declared.error.StaticError.TheVariants.{Memory}
 use Rattle.formula_resolving.specs.Refusals.{IsFirst}

@@ -4,8 +4,8 @@ use Rattle.formula_meaning.specs.Context.{Context, Fields, Integers}
 use Rattle.formula_meaning.specs.Some.{EachOf}
 use Rattle.qe_syntax.specs.Trees.{WrittenAtom}
 use Rattle.written_atoms.specs.declared.read.AtomCauses.{AtomCauses}
-use Rattle.formula_tree.specs.Causes.{HasNoTree, SomeTerm, HasNonlinear, HasForbidden, IsCongruence, HasBadModulus, HasPast, PassesInReading, most_height}
-use Rattle.formula_tree.specs.Resolving.{BoundTrees}
+use Rattle.resolved_formulas.specs.Causes.{HasNoTree, SomeTerm, HasNonlinear, HasForbidden, IsCongruence, HasBadModulus, HasPast, PassesInReading, most_height}
+use Rattle.resolved_formulas.specs.Resolving.{BoundTrees}
 use Rattle.formula_resolving.specs.declared.error.StaticError.{StaticError}
 use Rattle.formula_resolving.specs.declared.error.StaticError.TheVariants.{Unbound, FormulaAsTerm, Nonlinear, Division, CongruenceContext, Modulus, Depth, Overflow, Memory}
 use Rattle.formula_resolving.specs.declared.causes.Causes.{Causes}

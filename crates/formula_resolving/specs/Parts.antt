@@ -10,10 +10,11 @@ use Rattle.qe_syntax.specs.Trees.{Bound, FormulaTree, formulas_of}
 use Rattle.formula_tree.specs.declared.shape.Shape.{Shape}
 use Rattle.formula_tree.specs.Shapes.{tree_over}
 use Rattle.formula_tree.specs.Makers.{IsMade, AreMade}
-use Rattle.formula_tree.specs.Somewhere.{SomeAtom, SomewhereIn}
-use Rattle.formula_tree.specs.Causes.{height_in_place, atom_in_place}
-use Rattle.formula_tree.specs.NamesAfter.{names_after}
-use Rattle.formula_tree.specs.Resolving.{BoundTrees, place, resolve}
+use Rattle.resolved_formulas.specs.Somewhere.{SomeAtom, SomewhereIn}
+use Rattle.resolved_formulas.specs.Causes.{height_in_place, atom_in_place}
+use Rattle.resolved_formulas.specs.NamesAfter.{names_after}
+use Rattle.resolved_formulas.specs.Resolving.{BoundTrees, resolve}
+use Rattle.formula_tree.specs.Names.{place}
 use Rattle.formula_resolving.specs.declared.error.StaticError.{StaticError}
 use Rattle.formula_resolving.specs.declared.causes.Causes.{Causes}
 use Rattle.formula_resolving.specs.declared.parts.Part.{Part}

@@ -3,9 +3,10 @@ use Rattle.std.specs.Prelude.{ℕ, List, [], ◌∷◌}
 use Rattle.formula_meaning.specs.Context.{Context}
 use Rattle.formula_meaning.specs.Some.{EachOf}
 use Rattle.qe_syntax.specs.Trees.{FormulaTree}
-use Rattle.formula_tree.specs.Resolving.{BoundTrees, place}
-use Rattle.formula_tree.specs.NamesAfter.{names_after}
-use Rattle.formula_tree.specs.Causes as cause
+use Rattle.resolved_formulas.specs.Resolving.{BoundTrees}
+use Rattle.formula_tree.specs.Names.{place}
+use Rattle.resolved_formulas.specs.NamesAfter.{names_after}
+use Rattle.resolved_formulas.specs.Causes as cause
 use Rattle.formula_resolving.specs.declared.error.StaticError.{StaticError}
 use Rattle.formula_resolving.specs.declared.error.StaticError.TheVariants.{Unbound, FormulaAsTerm, Nonlinear, Division, CongruenceContext, Modulus, Depth, Overflow, Memory}
 

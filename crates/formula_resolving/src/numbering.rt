@@ -4,7 +4,7 @@ ghost use Rattle.std.specs.Prelude.{◌∷◌, [], IfOk, map};
 ghost use Rattle.qe_syntax.specs.Trees.{terms_of, formulas_of};
 ghost use Rattle.qe_syntax.specs.CodeTrees.{term_tree, formula_tree};
 ghost use Rattle.qe_syntax.specs.Valued.{IsUnquantified};
-ghost use Rattle.formula_tree.specs.Resolving.{variables_of, variables_in, formula_variables, all_variables};
+ghost use Rattle.resolved_formulas.specs.Resolving.{variables_of, variables_in, formula_variables, all_variables};
 ghost use Rattle.formula_resolving.specs.Numbering.{IsNumbered, Grows};
 
 use formula_tree::{Bindings, Names, NamesError};

@@ -10,7 +10,7 @@ ghost use Rattle.qe_syntax.specs.CodeTrees.{term_tree, formula_tree};
 ghost use Rattle.qe_syntax.specs.Valued.{matrix_of, IsUnquantified};
 ghost use Rattle.atom_normal.specs.Atoms.{context_of};
 ghost use Rattle.formula_tree.specs.Makers.{Keeps};
-ghost use Rattle.formula_tree.specs.Resolving.{place};
+ghost use Rattle.formula_tree.specs.Names.{place};
 ghost use Rattle.formula_resolving.specs.BoundIds.{AreIds, trees_bound};
 ghost use Rattle.formula_resolving.specs.Parts.{IsPart};
 ghost use Rattle.formula_resolving.specs.Connectives.{Opens, paired};

@@ -7,7 +7,7 @@ use Rattle.std.specs.Cmp.Lexicographic.{pointwise}
 use Rattle.std.specs.Prelude.{nat_eq, ℤ}
 use Rattle.std.specs.Ordering.{int_eq}
 use Rattle.std.specs.declared.cmp.PartialEq.{Ghosts}
-use Rattle.qe_syntax.specs.FromFormulaMeaning.{Form}
+use Rattle.formula_meaning.specs.Form.{Form}
 use Rattle.atom_normal.specs.FromLinearForms.{form_eq, form_decides, VarId}
 use Rattle.atom_normal.specs.declared.atoms.Rel.{Rel}
 use Rattle.atom_normal.specs.declared.atoms.Rel.TheVariants as rel

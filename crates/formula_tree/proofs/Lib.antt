@@ -1,22 +1,8 @@
-mod ResolvedExamples
 pub mod TreeEquations
 pub mod Shapes
 pub mod Tells
 pub mod AtomsTell
 pub mod Decided
-pub mod RuleLaw
-pub mod FormSteps
-pub mod FormValues
-pub mod PlaceLaws
 pub mod NamePlaces
-pub mod Nowhere
-pub mod AtomTruth
-pub mod ResolvedTruth
-pub mod WholeForms
-pub mod FormNames
-pub mod ResolvedNames
-pub mod MissingForms
-pub mod LowestForms
-pub mod ResolvedHeight
 pub mod FromAtomNormal
 pub mod FromLinearForms

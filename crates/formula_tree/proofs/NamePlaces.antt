@@ -4,8 +4,8 @@ use Rattle.std.specs.Prelude.{option_map, unwrap_or, position}
 use Rattle.std.specs.List.{prefix_len}
 use Rattle.std.proofs.lemmas.Bool.{ltb-false}
 use Rattle.atom_normal.specs.FromLinearForms.{VarId}
-use Rattle.qe_syntax.specs.Value.{same_name}
-use Rattle.formula_tree.specs.Resolving.{place}
+use Rattle.qe_names.specs.SameName.{same_name}
+use Rattle.formula_tree.specs.Names.{place}
 
 prefix_within : {X : Type 0} (p : X → Bool) (xs : List X) → prefix_len p xs ≤ length xs
 prefix_within p [] = omega arith

@@ -2,7 +2,7 @@
 use Rattle.std.specs.Prelude.{ℕ, List, Option}
 use Rattle.std.specs.Map.{lookup}
 use Rattle.indexmap.specs.IndexMap.{insert_entry}
-use Rattle.qe_syntax.specs.Value.{same_name}
+use Rattle.qe_names.specs.SameName.{same_name}
 
 -- at most so many names are bound
 abbrev pub most_bound : ℕ

@@ -4,15 +4,5 @@ pub mod Trees
 pub mod Shapes
 pub mod Makers
 pub mod Quantified
-pub mod FractionRule
-pub mod Fractions
-pub mod RationalForms
-pub mod LowestForms
-pub mod ResolvedLaws
-pub mod Somewhere
-pub mod Resolving
-pub mod NamesAfter
-pub mod Causes
-pub mod Accepted
 pub mod FromAtomNormal
 pub mod FromLinearForms

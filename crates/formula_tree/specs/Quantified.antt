@@ -1,6 +1,6 @@
 -- Whether a quantifier stands in a formula, as a test that computes.
 use Rattle.std.specs.Prelude.{Bool, true, false, ◌||◌}
-use Rattle.qe_syntax.specs.FromFormulaMeaning.{Formula, Formulas, Yes, No, One, Not, And, Or, Impl, Repl, Equiv, Ex, All, none, also}
+use Rattle.formula_meaning.specs.Formula.{Formula, Formulas, Yes, No, One, Not, And, Or, Impl, Repl, Equiv, Ex, All, none, also}
 
 module _ {A N : Type 0} where
   abbrev mutual

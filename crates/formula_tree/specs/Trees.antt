@@ -1,7 +1,7 @@
 -- Resolved formulas as trees of plain data: what the code's values stand for, with no memory in it.
 use Rattle.std.specs.Prelude.{List, [], ◌∷◌}
-use Rattle.qe_syntax.specs.FromFormulaMeaning.{Yes, No, One, Not, And, Or, Impl, Repl, Equiv, Ex, All, none, also}
-use Rattle.qe_syntax.specs.FromFormulaMeaning.tree_rules as meaning
+use Rattle.formula_meaning.specs.Formula.{Yes, No, One, Not, And, Or, Impl, Repl, Equiv, Ex, All, none, also}
+use Rattle.formula_meaning.specs.Tree as meaning
 use Rattle.atom_normal.specs.Atoms.{atom_of}
 use Rattle.formula_tree.specs.declared.tree.Tree as code
 use Rattle.formula_tree.specs.declared.tree.Tree.TheOpen as layer

@@ -3,7 +3,6 @@
 
 mod bindings;
 mod error;
-mod laws;
 mod maker;
 mod names;
 mod shape;
@@ -12,7 +11,6 @@ mod tree;
 pub use atom_normal::{Atom, Linear, Rel, Values, VarId, negate, truth};
 pub use bindings::{BindError, Bindings};
 pub use error::FormError;
-pub use laws::{forms_have_values, fractions_go_by_the_rule, resolving_keeps_truth};
 pub use maker::{MakeError, Maker};
 pub use names::{Names, NamesError};
 pub use shape::{Ids, Shape};

@@ -1,11 +1,10 @@
 ghost use Rattle.std.specs.Prelude.{◌≡◌, ◌≤◌, ℕ, [], Some, IfOk, IfErr, OnOk, OnErr, length, take, position, slice_get, option_map};
-ghost use Rattle.qe_syntax.specs.Value.{same_name};
-ghost use Rattle.formula_tree.specs.Names.{with_name};
-ghost use Rattle.formula_tree.specs.Resolving.{place};
+ghost use Rattle.qe_names.specs.SameName.{same_name};
+ghost use Rattle.formula_tree.specs.Names.{with_name, place};
 
 use atom_normal::VarId;
 use indexmap::IndexSet;
-use qe_syntax::Name;
+use qe_names::Name;
 use std::alloc::Global;
 use std::marker::Model;
 use thiserror::Error;
@@ -27,7 +26,7 @@ pub struct Names {
 impl Model for Names {
     ghost use Rattle.std.specs.Prelude.{List, ℕ};
     ghost use Rattle.std.specs.List.{IsDistinct};
-    ghost use Rattle.qe_syntax.specs.Value.{same_name};
+    ghost use Rattle.qe_names.specs.SameName.{same_name};
 
     ghost Value = { List (List ℕ) };
 

@@ -7,9 +7,9 @@ use Rattle.formula_meaning.specs.Tree.{Tree, IsFree}
 use Rattle.qe_syntax.specs.Trees.{Bound}
 use Rattle.qe_syntax.proofs.NameOrder.{by_at}
 use Rattle.formula_tree.specs.Bindings.{bound_to}
-use Rattle.formula_tree.specs.Causes.{atom_in_place}
+use Rattle.resolved_formulas.specs.Causes.{atom_in_place}
 use Rattle.formula_tree.specs.Quantified.{has_quantifier}
-use Rattle.formula_tree.specs.Resolving.{MentionsNumber}
+use Rattle.resolved_formulas.specs.Resolving.{MentionsNumber}
 use Rattle.formula_resolving.specs.BoundIds.{trees_bound}
 use Rattle.formula_resolving.proofs.AtomLaws.{bound_tree}
 use Rattle.free_names.specs.Scopes.{AreAmong, IsIn}

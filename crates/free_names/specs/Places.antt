@@ -7,7 +7,8 @@ use Rattle.formula_meaning.specs.Formula.{One}
 use Rattle.formula_meaning.specs.Replaced.{all_replaced}
 use Rattle.qe_syntax.specs.Trees.{FormulaTree, FormulaTrees}
 use Rattle.formula_tree.specs.declared.shape.Shape.{Shape}
-use Rattle.formula_tree.specs.Resolving.{place, IsFreeInPlace, MentionsNumber}
+use Rattle.resolved_formulas.specs.Resolving.{IsFreeInPlace, MentionsNumber}
+use Rattle.formula_tree.specs.Names.{place}
 use Rattle.formula_store.specs.declared.id.FormulaId.{FormulaId}
 use Rattle.formula_store.specs.Nodes.{tree}
 use Rattle.formula_resolving.specs.BoundIds.{trees_bound}

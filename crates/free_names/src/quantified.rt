@@ -4,7 +4,7 @@ ghost use Rattle.std.specs.Prelude.{◌≡◌, map};
 ghost use Rattle.formula_meaning.specs.Replaced.{replaced, all_replaced};
 ghost use Rattle.qe_syntax.specs.Trees.{formulas_of, Bound};
 ghost use Rattle.qe_syntax.specs.CodeTrees.{formula_tree};
-ghost use Rattle.formula_tree.specs.Causes.{atom_in_place};
+ghost use Rattle.resolved_formulas.specs.Causes.{atom_in_place};
 ghost use Rattle.formula_tree.specs.Quantified.{has_quantifier, some_quantifier};
 ghost use Rattle.formula_store.specs.Nodes.{tree, IsId};
 ghost use Rattle.formula_resolving.specs.BoundIds.{AreIds, trees_bound};

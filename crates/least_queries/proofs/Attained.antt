@@ -40,16 +40,17 @@ use Rattle.qe_syntax.specs.Writable.{IsWritableTerm, IsWritableFormula, AreWrita
 use Rattle.qe_syntax.proofs.ValueLaw.{value_proper}
 use Rattle.statement_syntax.specs.ConstraintLists.{AreWeakConstraints}
 use Rattle.redlog_reader.specs.Grammar.{quantified_names}
-use Rattle.formula_tree.specs.FractionRule.{◌>>=◌}
-use Rattle.formula_tree.specs.RationalForms.{RationalForm, formed, formed_difference, sum_of_forms, opposite_form}
-use Rattle.formula_tree.specs.ResolvedLaws.{Numbered, value_at}
-use Rattle.formula_tree.specs.Resolving.{BoundTrees, place, variables_of, formula_variables, all_variables, compared, resolved_atom, bound_truth}
-use Rattle.formula_tree.proofs.AtomTruth.{difference_stands, comparison_truth}
-use Rattle.formula_tree.proofs.FormValues.{below_positive, form_stands}
-use Rattle.formula_tree.proofs.Nowhere.{mentioned_have}
-use Rattle.formula_tree.proofs.PlaceLaws.{same_itself, slice_place, after_distinct}
-use Rattle.formula_tree.proofs.ResolvedTruth.{IsPlain, there, all_plain}
-use Rattle.formula_tree.proofs.RuleLaw.{bind_ok}
+use Rattle.resolved_formulas.specs.FractionRule.{◌>>=◌}
+use Rattle.resolved_formulas.specs.RationalForms.{RationalForm, formed, formed_difference, sum_of_forms, opposite_form}
+use Rattle.resolved_formulas.specs.ResolvedLaws.{Numbered, value_at}
+use Rattle.resolved_formulas.specs.Resolving.{BoundTrees, variables_of, formula_variables, all_variables, compared, resolved_atom, bound_truth}
+use Rattle.formula_tree.specs.Names.{place}
+use Rattle.resolved_formulas.proofs.AtomTruth.{difference_stands, comparison_truth}
+use Rattle.resolved_formulas.proofs.FormValues.{below_positive, form_stands}
+use Rattle.resolved_formulas.proofs.Nowhere.{mentioned_have}
+use Rattle.resolved_formulas.proofs.PlaceLaws.{same_itself, slice_place, after_distinct}
+use Rattle.resolved_formulas.proofs.ResolvedTruth.{IsPlain, there, all_plain}
+use Rattle.resolved_formulas.proofs.RuleLaw.{bind_ok}
 use Rattle.sample_reference.specs.Values.{Value, value_names, with_values, IsValue, origin}
 use Rattle.sample_reference.specs.TrueSample.{AreTrueValues}
 use Rattle.sample_reference.proofs.SamePoints.{abs_above, values_of_theory}

@@ -10,10 +10,11 @@ use Rattle.exact_numbers.specs.Frac.{Frac}
 use Rattle.least_theory.specs.LeastFraction.{IsLeastFraction}
 use Rattle.qe_syntax.specs.Trees.{TermTree, FormulaTree, FormulaTrees}
 use Rattle.statement_syntax.specs.Statements.{Least}
-use Rattle.formula_tree.specs.Causes.{IsNonlinear, Divides, IsBadModulus, OverflowsInReading}
-use Rattle.formula_tree.specs.Resolving.{place, formula_variables}
-use Rattle.formula_tree.specs.NamesAfter.{names_after}
-use Rattle.formula_tree.proofs.PlaceLaws.{after_has}
+use Rattle.resolved_formulas.specs.Causes.{IsNonlinear, Divides, IsBadModulus, OverflowsInReading}
+use Rattle.resolved_formulas.specs.Resolving.{formula_variables}
+use Rattle.formula_tree.specs.Names.{place}
+use Rattle.resolved_formulas.specs.NamesAfter.{names_after}
+use Rattle.resolved_formulas.proofs.PlaceLaws.{after_has}
 use Rattle.formula_resolving.specs.declared.error.StaticError.{StaticError}
 use Rattle.formula_resolving.specs.declared.error.StaticError.TheVariants as static
 use Rattle.formula_resolving.specs.Refusals as reading

@@ -24,13 +24,13 @@ use Rattle.statement_syntax.specs.Statements.{Least}
 use Rattle.redlog_reader.specs.Grammar.{quantified_names}
 use Rattle.redlog_printer.specs.Writing.{text_limit}
 use Rattle.problem_reading.proofs.FromSharedForms.{length_3, AreShort, variables_short, fraction_short, point_short, as_many}
-use Rattle.formula_tree.specs.Names.{with_name}
+use Rattle.formula_tree.specs.Names.{with_name, place}
 use Rattle.problem_reading.specs.Reading.{IsReadable}
 use Rattle.problem_reading.proofs.FromSessionState.{AllVariables, grows_then, grown_state, grown_session, place_below}
-use Rattle.formula_tree.specs.Causes.{most_height, height_in_place}
-use Rattle.formula_tree.specs.Resolving.{BoundTrees, place, formula_variables}
-use Rattle.formula_tree.proofs.PlaceLaws.{after_has, after_distinct, in_either}
-use Rattle.formula_tree.proofs.ResolvedTruth.{resolving_is_normal}
+use Rattle.resolved_formulas.specs.Causes.{most_height, height_in_place}
+use Rattle.resolved_formulas.specs.Resolving.{BoundTrees, formula_variables}
+use Rattle.resolved_formulas.proofs.PlaceLaws.{after_has, after_distinct, in_either}
+use Rattle.resolved_formulas.proofs.ResolvedTruth.{resolving_is_normal}
 use Rattle.formula_store.specs.declared.id.FormulaId.{FormulaId}
 use Rattle.formula_store.specs.Nodes.{tree}
 use Rattle.sample_reference.specs.Seen.{values_of}

@@ -14,10 +14,10 @@ use Rattle.qe_syntax.specs.Value.{same_name}
 use Rattle.qe_syntax.specs.Valued.{IsIn}
 use Rattle.qe_syntax.specs.Writable.{IsWritableTerm, AreWritableFormulas}
 use Rattle.redlog_reader.specs.Grammar.{quantified_names}
-use Rattle.formula_tree.specs.Names.{with_name}
-use Rattle.formula_tree.specs.Resolving.{place, variables_of, formula_variables, all_variables}
-use Rattle.formula_tree.specs.NamesAfter.{names_after}
-use Rattle.formula_tree.proofs.PlaceLaws.{same_is, same_itself, after_has, in_either}
+use Rattle.formula_tree.specs.Names.{with_name, place}
+use Rattle.resolved_formulas.specs.Resolving.{variables_of, formula_variables, all_variables}
+use Rattle.resolved_formulas.specs.NamesAfter.{names_after}
+use Rattle.resolved_formulas.proofs.PlaceLaws.{same_is, same_itself, after_has, in_either}
 use Rattle.formula_resolving.specs.Numbering.{Grows}
 use Rattle.formula_resolving.proofs.Numbered.{grows_same, grows_then, grows_with}
 use Rattle.problem_reading.specs.FromSessionMeaning.{target_name, problem_names, together, problem_of}

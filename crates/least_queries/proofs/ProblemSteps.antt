@@ -16,7 +16,7 @@ use Rattle.qe_syntax.specs.Writable.{IsWritableTerm, AreWritableFormulas}
 use Rattle.statement_syntax.specs.Constraints.{is_weak_constraint}
 use Rattle.statement_syntax.specs.ConstraintLists.{AreWeakConstraints}
 use Rattle.formula_tree.specs.Names.{with_name}
-use Rattle.formula_tree.specs.Resolving.{variables_of, all_variables}
+use Rattle.resolved_formulas.specs.Resolving.{variables_of, all_variables}
 use Rattle.problem_reading.specs.FromSessionMeaning.{target_name, together, problem_names, problem_of}
 use Rattle.problem_reading.proofs.FromSessionState.{AllVariables, both, variables_of_formula, variables_of_all, all_put_in}
 

@@ -23,8 +23,9 @@ use Rattle.qe_syntax.specs.Value.{relation_of}
 use Rattle.statement_syntax.specs.Constraints.{is_weak, is_weak_constraint}
 use Rattle.statement_syntax.specs.ConstraintLists.{AreWeakConstraints}
 use Rattle.redlog_reader.specs.Grammar.{quantified_names}
-use Rattle.formula_tree.specs.RationalForms.{RationalForm, Missing, formed_difference}
-use Rattle.formula_tree.specs.Resolving.{place, compared, resolved_atom}
+use Rattle.resolved_formulas.specs.RationalForms.{RationalForm, Missing, formed_difference}
+use Rattle.resolved_formulas.specs.Resolving.{compared, resolved_atom}
+use Rattle.formula_tree.specs.Names.{place}
 use Rattle.least_theory.specs.WeakTargets.{IsWeak, IsWeakRelation, exs}
 use Rattle.least_theory.proofs.Weak.{weak_in_fields}
 use Rattle.problem_reading.specs.FromSessionMeaning.{State, target_name, problem_names, together, resolved_problem}

@@ -5,8 +5,8 @@ use Rattle.qe_syntax.specs.Trees.{FormulaTree}
 use Rattle.formula_store.specs.declared.id.FormulaId.{FormulaId}
 use Rattle.formula_store.specs.Nodes.{tree, IsId}
 use Rattle.formula_tree.specs.Makers.{IsMade}
-use Rattle.formula_tree.specs.Resolving.{resolve}
-use Rattle.formula_tree.specs.NamesAfter.{names_after}
+use Rattle.resolved_formulas.specs.Resolving.{resolve}
+use Rattle.resolved_formulas.specs.NamesAfter.{names_after}
 use Rattle.formula_resolving.specs.FirstCause.{IsFirstCause}
 use Rattle.problem_reading.specs.FromAnswerTexts.{AreValuesWithin}
 use Rattle.formula_resolving.specs.declared.error.StaticError.{StaticError}

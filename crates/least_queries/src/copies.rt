@@ -5,7 +5,7 @@ ghost use Rattle.std.specs.List.{fold};
 ghost use Rattle.qe_syntax.specs.CodeTrees.{term_tree, term_trees, formula_tree};
 ghost use Rattle.statement_syntax.specs.Constraints.{is_weak_constraint};
 ghost use Rattle.formula_tree.specs.Names.{with_name};
-ghost use Rattle.formula_tree.specs.Resolving.{variables_of, variables_in, formula_variables};
+ghost use Rattle.resolved_formulas.specs.Resolving.{variables_of, variables_in, formula_variables};
 
 use formula_tree::Names;
 use qe_syntax::{Formula, Term, Terms, comparison, negative, power, quotient};

@@ -11,7 +11,7 @@ ghost use Rattle.statement_syntax.specs.Constraints.{is_weak_constraint};
 ghost use Rattle.statement_syntax.specs.ConstraintLists.{AreWeakConstraints};
 ghost use Rattle.redlog_reader.specs.Grammar.{quantified_names};
 ghost use Rattle.formula_tree.specs.Names.{with_name};
-ghost use Rattle.formula_tree.specs.Resolving.{all_variables};
+ghost use Rattle.resolved_formulas.specs.Resolving.{all_variables};
 ghost use Rattle.problem_reading.specs.FromSessionMeaning.{target_name as name_of_target, together as all_together, problem_of};
 
 use crate::copies::{copied_comparison, copied_term};

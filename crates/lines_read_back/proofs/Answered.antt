@@ -8,8 +8,8 @@ use Rattle.formula_meaning.specs.Tree.{Tree}
 use Rattle.qe_syntax.specs.Trees.{FormulaTree}
 use Rattle.statement_syntax.specs.Statements.{Echo, Say, StatementTree}
 use Rattle.formula_tree.specs.Names.{with_name}
-use Rattle.formula_tree.specs.Resolving.{formula_variables, resolve}
-use Rattle.formula_tree.specs.Accepted.{IsAccepted as IsResolvable}
+use Rattle.resolved_formulas.specs.Resolving.{formula_variables, resolve}
+use Rattle.resolved_formulas.specs.Accepted.{IsAccepted as IsResolvable}
 use Rattle.redlog_printer.specs.Text.{tree_text}
 use Rattle.printed_formulas.specs.Round.{IsReadable, line_text, printed_echo, IsReadBack}
 use Rattle.printed_formulas.proofs.Echo.{text_is_read_back}

@@ -9,9 +9,9 @@ use Rattle.qe_syntax.specs.declared.entries.PointEntry.{PointEntry}
 use Rattle.statement_syntax.specs.declared.grid.GridAxis.{GridAxis}
 use Rattle.statement_syntax.specs.Writable.{AreWritableAxes, IsWritableCommand, IsWritable}
 use Rattle.formula_tree.specs.Names.{with_name}
-use Rattle.formula_tree.specs.Resolving.{formula_variables, all_variables}
-use Rattle.formula_tree.specs.NamesAfter.{names_after}
-use Rattle.formula_tree.proofs.PlaceLaws.{after_distinct}
+use Rattle.resolved_formulas.specs.Resolving.{formula_variables, all_variables}
+use Rattle.resolved_formulas.specs.NamesAfter.{names_after}
+use Rattle.resolved_formulas.proofs.PlaceLaws.{after_distinct}
 use Rattle.redlog_reader.specs.Statement.{Spells}
 use Rattle.redlog_tokens.proofs.ProperTokens.{lexed_proper}
 use Rattle.redlog_reader.proofs.Proper.{proper_statement}

@@ -13,11 +13,12 @@ use Rattle.qe_syntax.specs.Trees.{FormulaTree, FormulaTrees}
 use Rattle.statement_syntax.specs.Statements.{CommandTree, Echo, Nnf, Pnf, Dnf, Cnf, Simpl, Qe, Qea, Holds, Sample, Grid, Certify, Check, Least, Say, StatementTree}
 use Rattle.qe_syntax.specs.Writable.{IsWritableFormula, AreWritableFormulas}
 use Rattle.statement_syntax.specs.Writable.{IsWritableCommand}
-use Rattle.formula_tree.specs.Resolving.{BoundTrees, place, all_variables, resolve}
-use Rattle.formula_tree.specs.NamesAfter.{names_after}
-use Rattle.formula_tree.specs.Causes.{most_height, IsUnbound, NamesFormulaAsTerm, IsNonlinear, Divides, CongruenceInFields, IsBadModulus, IsTooDeep, OverflowsInReading}
-use Rattle.formula_tree.specs.Accepted.{IsAccepted as IsResolvable}
-use Rattle.formula_tree.proofs.ResolvedHeight.{resolving_keeps_height}
+use Rattle.resolved_formulas.specs.Resolving.{BoundTrees, all_variables, resolve}
+use Rattle.formula_tree.specs.Names.{place}
+use Rattle.resolved_formulas.specs.NamesAfter.{names_after}
+use Rattle.resolved_formulas.specs.Causes.{most_height, IsUnbound, NamesFormulaAsTerm, IsNonlinear, Divides, CongruenceInFields, IsBadModulus, IsTooDeep, OverflowsInReading}
+use Rattle.resolved_formulas.specs.Accepted.{IsAccepted as IsResolvable}
+use Rattle.resolved_formulas.proofs.ResolvedHeight.{resolving_keeps_height}
 use Rattle.redlog_reader.specs.Statement.{IsDeep}
 use Rattle.redlog_tokens.specs.declared.level.TheConstants.{LEVEL_LIMIT}
 use Rattle.redlog_reader.specs.declared.read.TheConstants.{BYTE_LIMIT}
@@ -40,7 +41,7 @@ use Rattle.redlog_run.specs.FromProblemReading.{AreNumbered}
 use Rattle.redlog_run.specs.FromSessionState.{IsSessionFormula}
 use Rattle.clean_forms.proofs.FormShapes.{form_free}
 use Rattle.redlog_run.proofs.FromProblemReading.{no_cause, numbered_in}
-use Rattle.formula_tree.proofs.PlaceLaws.{after_has, in_either}
+use Rattle.resolved_formulas.proofs.PlaceLaws.{after_has, in_either}
 use Rattle.redlog_run.proofs.FromSharedForms.{unquantified_bound, within_of_names, free_below, none_from, all_below, prenex_formula}
 use Rattle.redlog_run.proofs.FromSessionState.{AreSessionFormulas, resolved_formula, negated_formula}
 use Rattle.lines_read_back.specs.ReadBack.{IsBare, IsEcho, IsPrinted, PrintedIsFormula, IsAnsweredBy, EchoIsAnswered}

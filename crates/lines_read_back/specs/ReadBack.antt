@@ -7,7 +7,7 @@ use Rattle.formula_meaning.specs.Sizes.{height}
 use Rattle.formula_meaning.specs.Tree.{Tree}
 use Rattle.qe_syntax.specs.Trees.{FormulaTree}
 use Rattle.statement_syntax.specs.Statements.{CommandTree, Echo, Nnf, Pnf, Dnf, Cnf, Simpl, Qe, Qea, Holds, Sample, Grid, Certify, Check, Least, Say}
-use Rattle.formula_tree.specs.Causes.{most_height}
+use Rattle.resolved_formulas.specs.Causes.{most_height}
 use Rattle.redlog_reader.specs.Statement.{Spells, IsDeep}
 use Rattle.redlog_reader.specs.declared.read.TheConstants.{BYTE_LIMIT}
 use Rattle.redlog_printer.specs.Text.{tree_text}

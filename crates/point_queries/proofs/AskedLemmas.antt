@@ -10,8 +10,8 @@ use Rattle.qe_syntax.specs.Point.{PassesLimit}
 use Rattle.statement_syntax.specs.Statements.{CommandTree, Holds, Sample}
 use Rattle.qe_syntax.specs.Trees.{FormulaTree}
 use Rattle.formula_tree.specs.Bindings.{bound_to}
-use Rattle.formula_tree.specs.Causes.{IsBound, OverflowsInReading}
-use Rattle.formula_tree.specs.Resolving.{place}
+use Rattle.resolved_formulas.specs.Causes.{IsBound, OverflowsInReading}
+use Rattle.formula_tree.specs.Names.{place}
 use Rattle.formula_resolving.specs.declared.error.StaticError.{StaticError}
 use Rattle.formula_resolving.specs.declared.error.StaticError.TheVariants as static
 use Rattle.formula_resolving.specs.Refusals as reading

@@ -17,12 +17,12 @@ use Rattle.statement_syntax.specs.Statements.{Holds}
 use Rattle.qe_syntax.specs.Trees.{FormulaTree}
 use Rattle.qe_syntax.specs.Value.{same_name}
 use Rattle.qe_syntax.specs.Valued.{IsIn}
-use Rattle.formula_tree.specs.Names.{with_name}
-use Rattle.formula_tree.specs.Causes.{OverflowsInReading}
+use Rattle.formula_tree.specs.Names.{with_name, place}
+use Rattle.resolved_formulas.specs.Causes.{OverflowsInReading}
 use Rattle.formula_tree.specs.Makers.{IsMade}
-use Rattle.formula_tree.specs.Resolving.{place, formula_variables, resolve}
-use Rattle.formula_tree.proofs.PlaceLaws.{after_has, after_distinct, in_either}
-use Rattle.formula_tree.proofs.ResolvedTruth.{resolving_is_normal}
+use Rattle.resolved_formulas.specs.Resolving.{formula_variables, resolve}
+use Rattle.resolved_formulas.proofs.PlaceLaws.{after_has, after_distinct, in_either}
+use Rattle.resolved_formulas.proofs.ResolvedTruth.{resolving_is_normal}
 use Rattle.formula_resolving.specs.Numbering.{Grows}
 use Rattle.formula_resolving.specs.BoundIds.{AreIds}
 use Rattle.formula_store.specs.declared.id.FormulaId.{FormulaId}

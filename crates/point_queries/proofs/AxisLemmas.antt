@@ -21,8 +21,8 @@ use Rattle.qe_syntax.specs.declared.entries.PointEntry.{PointEntry}
 use Rattle.qe_syntax.specs.Point.{HasEntry, NamesTwice, IsZeroBelow, IsCommonMultiple, lowest_terms}
 use Rattle.qe_syntax.specs.Valued.{IsIn}
 use Rattle.qe_syntax.specs.Writable.{AreWritableEntries}
-use Rattle.formula_tree.specs.Resolving.{place}
-use Rattle.formula_tree.proofs.PlaceLaws.{slice_place}
+use Rattle.formula_tree.specs.Names.{place}
+use Rattle.resolved_formulas.proofs.PlaceLaws.{slice_place}
 use Rattle.statement_syntax.specs.declared.grid.Ratio.{Ratio}
 use Rattle.statement_syntax.specs.declared.grid.GridAxis.{GridAxis}
 use Rattle.statement_syntax.specs.Writable.{AreWritableAxes}

@@ -21,8 +21,8 @@ use Rattle.qe_syntax.specs.Trees.{FormulaTree, FormulaTrees}
 use Rattle.qe_syntax.specs.Value.{NamedPoint, same_name}
 use Rattle.qe_syntax.specs.Value as written
 use Rattle.formula_tree.specs.Names.{with_name}
-use Rattle.formula_tree.specs.Resolving.{formula_variables, all_variables, resolve, at_names, bound_truth}
-use Rattle.formula_tree.proofs.PlaceLaws.{after_distinct}
+use Rattle.resolved_formulas.specs.Resolving.{formula_variables, all_variables, resolve, at_names, bound_truth}
+use Rattle.resolved_formulas.proofs.PlaceLaws.{after_distinct}
 use Rattle.formula_resolving.specs.Numbering.{Grows}
 use Rattle.formula_meaning.specs.Within.{IsAtomWithin}
 use Rattle.session_meaning.specs.FromAnswerTexts.{cases_text, AreCasesWithin}

@@ -3,8 +3,9 @@ use Rattle.std.proofs.Common.{inl, inr, ⊎_elim, ℕ, List, Bool, None, sym, su
 use Rattle.statement_syntax.specs.declared.grid.GridAxis.{GridAxis}
 use Rattle.statement_syntax.specs.Statements.{Grid}
 use Rattle.qe_syntax.specs.Trees.{FormulaTree}
-use Rattle.formula_tree.specs.Causes.{OverflowsInReading}
-use Rattle.formula_tree.specs.Resolving.{place, resolve}
+use Rattle.resolved_formulas.specs.Causes.{OverflowsInReading}
+use Rattle.resolved_formulas.specs.Resolving.{resolve}
+use Rattle.formula_tree.specs.Names.{place}
 use Rattle.point_grid.specs.declared.axis.Axis.{Axis}
 use Rattle.point_grid.specs.Grids.{grid_of}
 use Rattle.session_meaning.specs.declared.line.StatementError.{StatementError}

@@ -19,11 +19,11 @@ use Rattle.statement_syntax.specs.declared.grid.GridAxis.{GridAxis}
 use Rattle.statement_syntax.specs.Statements.{Grid}
 use Rattle.statement_syntax.specs.Writable.{AreWritableAxes}
 use Rattle.formula_meaning.specs.Replaced.{replaced}
-use Rattle.formula_tree.specs.Causes.{OverflowsInReading, atom_in_place}
+use Rattle.resolved_formulas.specs.Causes.{OverflowsInReading, atom_in_place}
 use Rattle.formula_tree.specs.Quantified.{has_quantifier}
 use Rattle.formula_tree.specs.Makers.{IsMade}
-use Rattle.formula_tree.specs.Names.{with_name}
-use Rattle.formula_tree.specs.Resolving.{formula_variables, place, resolve, bound_truth}
+use Rattle.formula_tree.specs.Names.{with_name, place}
+use Rattle.resolved_formulas.specs.Resolving.{formula_variables, resolve, bound_truth}
 use Rattle.formula_resolving.specs.Numbering.{Grows}
 use Rattle.formula_store.specs.declared.id.FormulaId.{FormulaId}
 use Rattle.formula_store.specs.Nodes.{tree, IsId}

@@ -12,8 +12,9 @@ use Rattle.qe_syntax.specs.Value.{same_name}
 use Rattle.qe_syntax.specs.Value as written
 use Rattle.qe_syntax.specs.Valued.{IsIn}
 use Rattle.qe_syntax.specs.Writable.{IsWritableFormula}
-use Rattle.formula_tree.specs.Resolving.{place, at_names, resolve, bound_truth}
-use Rattle.formula_tree.proofs.PlaceLaws.{slice_place, one_place}
+use Rattle.resolved_formulas.specs.Resolving.{at_names, resolve, bound_truth}
+use Rattle.formula_tree.specs.Names.{place}
+use Rattle.resolved_formulas.proofs.PlaceLaws.{slice_place, one_place}
 use Rattle.session_meaning.specs.State.{State}
 use Rattle.session_meaning.specs.Places.{by_names}
 use Rattle.problem_reading.specs.FromSessionState.{IsSound}

@@ -41,13 +41,13 @@ use Rattle.qe_syntax.specs.Value.{NamedPoint, same_name}
 use Rattle.qe_syntax.specs.Valued.{IsIn}
 use Rattle.qe_syntax.proofs.EntryLists.{some_left, some_right, some_split, some_one}
 use Rattle.qe_syntax.proofs.EntryNumbers.{below_positive}
-use Rattle.formula_tree.specs.Names.{with_name}
+use Rattle.formula_tree.specs.Names.{with_name, place}
 use Rattle.formula_tree.specs.Bindings.{bound_to}
-use Rattle.formula_tree.specs.Causes.{atom_in_place}
+use Rattle.resolved_formulas.specs.Causes.{atom_in_place}
 use Rattle.formula_tree.specs.Quantified.{has_quantifier, some_quantifier}
-use Rattle.formula_tree.specs.RationalForms.{RationalForm, Missing, formed, formed_difference}
-use Rattle.formula_tree.specs.Resolving.{BoundTrees, place, at_names, resolve, resolved_atom, compared, congruent}
-use Rattle.formula_tree.proofs.PlaceLaws.{slice_place, one_place, at_place}
+use Rattle.resolved_formulas.specs.RationalForms.{RationalForm, Missing, formed, formed_difference}
+use Rattle.resolved_formulas.specs.Resolving.{BoundTrees, at_names, resolve, resolved_atom, compared, congruent}
+use Rattle.resolved_formulas.proofs.PlaceLaws.{slice_place, one_place, at_place}
 use Rattle.formula_store.specs.Truths.{Tells, SomeAtomPasses}
 use Rattle.session_meaning.specs.FromFreeNames.{HasEntryAt}
 use Rattle.session_meaning.specs.Points.{MeanNoPoint, IsQuantified, SomeAtomPassesAt}

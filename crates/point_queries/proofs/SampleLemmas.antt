@@ -26,7 +26,7 @@ use Rattle.qe_syntax.specs.Point.{IsPointOf}
 use Rattle.statement_syntax.specs.Statements.{Sample}
 use Rattle.qe_syntax.specs.Trees.{FormulaTree}
 use Rattle.qe_syntax.specs.Value.{NamedPoint, same_name}
-use Rattle.formula_tree.specs.Resolving.{at_names, resolve}
+use Rattle.resolved_formulas.specs.Resolving.{at_names, resolve}
 use Rattle.session_meaning.specs.declared.line.StatementError.{StatementError}
 use Rattle.session_meaning.specs.declared.line.StatementError.TheVariants as error
 use Rattle.session_meaning.specs.State.{State}

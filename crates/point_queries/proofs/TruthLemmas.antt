@@ -13,7 +13,7 @@ use Rattle.qe_syntax.specs.Point.{IsPointOf}
 use Rattle.statement_syntax.specs.Statements.{Holds}
 use Rattle.qe_syntax.specs.Trees.{FormulaTree}
 use Rattle.qe_syntax.specs.Value.{NamedPoint, same_name}
-use Rattle.formula_tree.specs.Resolving.{at_names, resolve}
+use Rattle.resolved_formulas.specs.Resolving.{at_names, resolve}
 use Rattle.formula_store.specs.Truths.{Tells}
 use Rattle.elimination_reference.specs.Sample.{reference_at}
 use Rattle.plain_engine.specs.declared.measured.Measured.{Measured}

@@ -12,7 +12,7 @@ use Rattle.qe_syntax.specs.Writable.{IsWritableFormula, AreWritableEntries}
 use Rattle.statement_syntax.specs.Statements.{Holds}
 use Rattle.qe_syntax.specs.Trees.{FormulaTree}
 use Rattle.formula_tree.specs.Names.{with_name}
-use Rattle.formula_tree.specs.Resolving.{at_names, formula_variables, resolve}
+use Rattle.resolved_formulas.specs.Resolving.{at_names, formula_variables, resolve}
 use Rattle.formula_resolving.specs.Numbering.{Grows}
 use Rattle.formula_store.specs.declared.id.FormulaId.{FormulaId}
 use Rattle.formula_store.specs.Nodes.{tree}

@@ -13,9 +13,10 @@ use Rattle.statement_syntax.specs.Statements.{CommandTree, Holds, Sample}
 use Rattle.qe_syntax.specs.Trees.{FormulaTree}
 use Rattle.qe_syntax.specs.Valued.{IsIn}
 use Rattle.formula_tree.specs.Bindings.{bound_to}
-use Rattle.formula_tree.specs.Causes.{IsBound, OverflowsInReading}
+use Rattle.resolved_formulas.specs.Causes.{IsBound, OverflowsInReading}
 use Rattle.formula_tree.specs.Makers.{IsMade}
-use Rattle.formula_tree.specs.Resolving.{place, resolve}
+use Rattle.resolved_formulas.specs.Resolving.{resolve}
+use Rattle.formula_tree.specs.Names.{place}
 use Rattle.formula_store.specs.declared.id.FormulaId.{FormulaId}
 use Rattle.formula_store.specs.Nodes.{tree, IsId}
 use Rattle.session_meaning.specs.declared.line.StatementError.{StatementError}

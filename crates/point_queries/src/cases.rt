@@ -3,7 +3,7 @@
 ghost use Rattle.formula_meaning.specs.Formula.{also};
 ghost use Rattle.std.specs.Prelude.{◌≡◌, ◌≤◌, Bool, None, map, IfOk, IfErr, OnOk, OnErr, length};
 ghost use Rattle.session_meaning.specs.FromPlainCases.{case_seen, HavePoints};
-ghost use Rattle.formula_tree.specs.Resolving.{resolve};
+ghost use Rattle.resolved_formulas.specs.Resolving.{resolve};
 ghost use Rattle.session_meaning.specs.FromAnswerTexts.{cases_text as text_of_cases, AreCasesWithin};
 ghost use Rattle.qe_syntax.specs.Writable.{IsWritableFormula, AreWritableFormulas};
 ghost use Rattle.qe_syntax.specs.Trees.{formulas_of};

@@ -11,7 +11,7 @@ ghost use Rattle.qe_syntax.specs.Value.{same_name};
 ghost use Rattle.qe_syntax.specs.Writable.{IsWritableFormula};
 ghost use Rattle.statement_syntax.specs.Statements.{Grid as GridOf};
 ghost use Rattle.statement_syntax.specs.Writable.{IsWritableRatio, IsWritableAxis, AreWritableAxes};
-ghost use Rattle.formula_tree.specs.Resolving.{place};
+ghost use Rattle.formula_tree.specs.Names.{place};
 ghost use Rattle.formula_store.specs.Nodes.{tree, IsId};
 ghost use Rattle.formula_store.specs.Truths.{IsWholeWhereAsked};
 ghost use Rattle.point_grid.specs.Frames.{points_of, most_points};

@@ -14,7 +14,7 @@ ghost use Rattle.qe_syntax.specs.Writable.{IsWritableFormula, AreWritableEntries
 ghost use Rattle.statement_syntax.specs.Statements.{Holds};
 ghost use Rattle.qe_syntax.specs.CodeTrees.{formula_tree};
 ghost use Rattle.qe_syntax.specs.Value.{same_name};
-ghost use Rattle.formula_tree.specs.Resolving.{at_names};
+ghost use Rattle.resolved_formulas.specs.Resolving.{at_names};
 ghost use Rattle.formula_store.specs.Nodes.{tree, IsId};
 ghost use Rattle.formula_store.specs.Truths.{Tells, IsWholeWhereAsked};
 ghost use Rattle.problem_reading.specs.FromCommandTools.{use_of, Refuses, IsQueryAnswer};

@@ -12,7 +12,7 @@ ghost use Rattle.qe_syntax.specs.Writable.{IsWritableFormula, AreWritableEntries
 ghost use Rattle.qe_syntax.specs.CodeTrees.{formula_tree};
 ghost use Rattle.qe_syntax.specs.Value.{same_name};
 ghost use Rattle.formula_tree.specs.Names.{with_name};
-ghost use Rattle.formula_tree.specs.Resolving.{formula_variables, at_names};
+ghost use Rattle.resolved_formulas.specs.Resolving.{formula_variables, at_names};
 ghost use Rattle.formula_resolving.specs.Numbering.{Grows};
 ghost use Rattle.formula_resolving.specs.BoundIds.{AreIds};
 ghost use Rattle.formula_store.specs.Nodes.{IsId};

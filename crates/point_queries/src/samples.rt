@@ -12,7 +12,7 @@ ghost use Rattle.qe_syntax.specs.Writable.{IsWritableFormula, AreWritableEntries
 ghost use Rattle.statement_syntax.specs.Statements.{Sample};
 ghost use Rattle.qe_syntax.specs.CodeTrees.{formula_tree};
 ghost use Rattle.qe_syntax.specs.Value.{same_name};
-ghost use Rattle.formula_tree.specs.Resolving.{at_names};
+ghost use Rattle.resolved_formulas.specs.Resolving.{at_names};
 ghost use Rattle.formula_store.specs.Nodes.{tree, IsId};
 ghost use Rattle.sample_reference.specs.TrueSample.{IsTrueSample};
 ghost use Rattle.sample_reference.specs.Seen.{sample_of};

@@ -14,7 +14,7 @@ use Rattle.formula_meaning.specs.Tree.{Tree, IsFree, tree_names}
 use Rattle.formula_meaning.proofs.EachAtom.{every_map, every_both}
 use Rattle.formula_meaning.proofs.NormalShape.{normal_form_every, normal_form_shape}
 use Rattle.atom_normal.specs.NormalForm.{normal_atom, negated_normal, IsNormal, ConstantPasses}
-use Rattle.formula_tree.specs.Somewhere.{SomeAtom}
+use Rattle.resolved_formulas.specs.Somewhere.{SomeAtom}
 use Rattle.atom_normal.proofs.NormalLaws.{normal_atomic, negated_normal_is, negated_names}
 use Rattle.formula_meaning.specs.Within.{IsTreeWithin, IsAtomWithin, AreTermsWithin}
 use Rattle.formula_meaning.specs.Shape.{IsPrenex, fewest_blocks}

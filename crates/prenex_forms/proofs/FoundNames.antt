@@ -6,9 +6,8 @@ use Rattle.std.proofs.lemmas.Bool.{cases_eq, ltb-true, ltb-false, lt-ltb, le-ltb
 use Rattle.formula_meaning.specs.Some.{Among}
 use Rattle.linear_forms.specs.declared.form.VarId.{VarId}
 use Rattle.qe_syntax.specs.Value.{same_name}
-use Rattle.formula_tree.specs.Resolving.{place}
-use Rattle.formula_tree.specs.Names.{with_name}
-use Rattle.formula_tree.proofs.PlaceLaws.{same_is, same_itself}
+use Rattle.formula_tree.specs.Names.{place, with_name}
+use Rattle.resolved_formulas.proofs.PlaceLaws.{same_is, same_itself}
 use Rattle.prenex_theory.specs.NewNames.{new_text, IsFirstNew, AddsNewNames}
 
 place_any : (x : List ℕ) (names : List (List ℕ)) → nat_lt (place names x) (length names) ≡ list_any (same_name x) names

@@ -18,7 +18,7 @@ use Rattle.formula_meaning.specs.Atom.{Atom, Mentions}
 use Rattle.formula_meaning.specs.Every.{Every, EveryBound, EveryBoundOf, FreeInSome}
 use Rattle.formula_meaning.specs.Replaced.{replaced, all_replaced}
 use Rattle.formula_meaning.specs.Tree.{Tree, Trees, IsFree}
-use Rattle.formula_tree.specs.Somewhere.{SomeAtom, SomewhereIn}
+use Rattle.resolved_formulas.specs.Somewhere.{SomeAtom, SomewhereIn}
 use Rattle.atom_normal.specs.NormalForm.{normal_atom, IsNormal, ConstantPasses, constant_tree}
 use Rattle.formula_meaning.specs.declared.junction.Junction.{Junction}
 use Rattle.formula_meaning.specs.declared.quantifier.Quantifier.{Quantifier}

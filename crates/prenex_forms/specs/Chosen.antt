@@ -5,7 +5,7 @@ use Rattle.formula_meaning.specs.Atom.{Mentions}
 use Rattle.formula_meaning.specs.Every.{Every, EveryOf, EveryBound, EveryBoundOf, FreeInSome}
 use Rattle.formula_meaning.specs.Replaced.{replaced, all_replaced}
 use Rattle.formula_meaning.specs.Tree.{Tree, Trees, IsFree}
-use Rattle.formula_tree.specs.Somewhere.{SomeAtom, SomewhereIn}
+use Rattle.resolved_formulas.specs.Somewhere.{SomeAtom, SomewhereIn}
 use Rattle.atom_normal.specs.NormalForm.{normal_atom, IsNormal, ConstantPasses}
 use Rattle.prenex_theory.specs.Renaming.{Chosen, after, after_all, renamed, all_renamed}
 use Rattle.prenex_theory.specs.Links.{Links}

@@ -2,7 +2,7 @@
 use Rattle.std.specs.Prelude.{ℕ}
 use Rattle.formula_meaning.specs.Context.{Context}
 use Rattle.formula_meaning.specs.Tree.{Tree}
-use Rattle.formula_tree.specs.Somewhere.{SomeAtom}
+use Rattle.resolved_formulas.specs.Somewhere.{SomeAtom}
 use Rattle.atom_normal.specs.NormalForm.{normal_atom, ConstantPasses}
 use Rattle.prenex_theory.specs.Renaming.{with_chosen_names}
 

@@ -19,14 +19,15 @@ use Rattle.qe_syntax.specs.Trees as tree
 use Rattle.qe_syntax.specs.Trees.{TermTree, TermTrees, Number, Named, Product, Sum, Negative, terms_of, WrittenAtom, FormulaTree, FormulaTrees}
 use Rattle.qe_syntax.specs.Value.{same_name}
 use Rattle.redlog_reader.specs.Grammar.{sum_of}
-use Rattle.formula_tree.specs.RationalForms.{RationalForm, Missing, is_constant, formed, product_of_forms}
-use Rattle.formula_tree.specs.Resolving.{place, resolved_atom, resolve}
-use Rattle.formula_tree.specs.NamesAfter.{names_after}
-use Rattle.formula_tree.specs.Somewhere.{Somewhere, SomewhereIn}
-use Rattle.formula_tree.specs.Causes.{HasNoTree, IsBound, MentionsBound, IsVarying, IsNoDivisor, HasNonlinear, HaveNonlinear, HasForbidden, HaveForbidden, HasPast, HavePast, SomeTerm, IsCongruence, HasBadModulus, IsMissing, PassesInReading, IsNonlinear, Divides, CongruenceInFields, IsBadModulus, OverflowsInReading}
-use Rattle.formula_tree.proofs.RuleLaw.{ok_same}
-use Rattle.formula_tree.proofs.Nowhere.{every_both}
-use Rattle.formula_tree.proofs.ResolvedHeight.{resolving_keeps_height}
+use Rattle.resolved_formulas.specs.RationalForms.{RationalForm, Missing, is_constant, formed, product_of_forms}
+use Rattle.resolved_formulas.specs.Resolving.{resolved_atom, resolve}
+use Rattle.formula_tree.specs.Names.{place}
+use Rattle.resolved_formulas.specs.NamesAfter.{names_after}
+use Rattle.resolved_formulas.specs.Somewhere.{Somewhere, SomewhereIn}
+use Rattle.resolved_formulas.specs.Causes.{HasNoTree, IsBound, MentionsBound, IsVarying, IsNoDivisor, HasNonlinear, HaveNonlinear, HasForbidden, HaveForbidden, HasPast, HavePast, SomeTerm, IsCongruence, HasBadModulus, IsMissing, PassesInReading, IsNonlinear, Divides, CongruenceInFields, IsBadModulus, OverflowsInReading}
+use Rattle.resolved_formulas.proofs.RuleLaw.{ok_same}
+use Rattle.resolved_formulas.proofs.Nowhere.{every_both}
+use Rattle.resolved_formulas.proofs.ResolvedHeight.{resolving_keeps_height}
 use Rattle.redlog_printer.specs.Text.{name_at}
 use Rattle.formula_meaning.specs.Within.{IsAtomWithin}
 use Rattle.printed_formulas.specs.Written.{number_term, signed_term, factor_term, multiple_term, constant_term, later_constant_terms, member_terms, form_term, written_atom, written_formula}

@@ -13,8 +13,9 @@ use Rattle.atom_normal.specs.NormalForm.{normal_atom, IsNormal}
 use Rattle.atom_normal.proofs.NormalLaws.{normal_stays}
 use Rattle.qe_syntax.specs.Trees.{FormulaTrees}
 use Rattle.qe_syntax.specs.Value.{same_name, relation_of}
-use Rattle.formula_tree.specs.RationalForms.{formed, formed_difference}
-use Rattle.formula_tree.specs.Resolving.{place, compared, congruent, resolved_atom, resolve}
+use Rattle.resolved_formulas.specs.RationalForms.{formed, formed_difference}
+use Rattle.resolved_formulas.specs.Resolving.{compared, congruent, resolved_atom, resolve}
+use Rattle.formula_tree.specs.Names.{place}
 use Rattle.redlog_printer.specs.Text.{name_at}
 use Rattle.formula_meaning.specs.Within.{IsAtomWithin}
 use Rattle.printed_formulas.specs.Written.{number_term, form_term, relation_sign, written_atom, written_formula}

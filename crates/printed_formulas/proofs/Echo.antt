@@ -1,7 +1,7 @@
 -- The text of a tree with its end mark spells an Echo, which is resolved to the tree.
 use Rattle.std.proofs.Common.{◌≡◌, ℕ, List, [], ◌∷◌, ◌++◌, length, codes, refl, sym, ap, ◌∙◌, subst}
 use Rattle.formula_meaning.specs.Tree.{Tree}
-use Rattle.formula_tree.proofs.Nowhere.{every_both}
+use Rattle.resolved_formulas.proofs.Nowhere.{every_both}
 use Rattle.redlog_tokens.specs.declared.terminal.Terminal.TheVariants as terminal
 use Rattle.redlog_tokens.specs.declared.terminal.Mark.TheVariants as mark
 use Rattle.redlog_tokens.specs.declared.level.TheConstants.{LEVEL_LIMIT}
@@ -11,7 +11,7 @@ use Rattle.redlog_reader.specs.Statement.{Spells}
 use Rattle.redlog_reader.proofs.Whole.{spells_once}
 use Rattle.redlog_printer.specs.Text.{tree_text}
 use Rattle.formula_meaning.specs.Within.{IsAtomWithin}
-use Rattle.formula_tree.specs.Resolving.{resolve}
+use Rattle.resolved_formulas.specs.Resolving.{resolve}
 use Rattle.printed_formulas.specs.Written.{written_formula}
 use Rattle.printed_formulas.specs.Printed.{Terminals, tree_terminals, line_terminals}
 use Rattle.formula_meaning.specs.Numbers.{IsAtomInLimit}

@@ -21,9 +21,9 @@ use Rattle.linear_forms.proofs.Quotients.{one_quotient, quotient_one}
 use Rattle.qe_syntax.specs.Trees.{TermTree, Named, Product, terms_of}
 use Rattle.redlog_reader.specs.Grammar.{sum_of}
 use Rattle.redlog_printer.specs.Text.{name_at}
-use Rattle.formula_tree.specs.FractionRule.{◌>>=◌, added}
+use Rattle.resolved_formulas.specs.FractionRule.{◌>>=◌, added}
 use Rattle.formula_meaning.specs.Limits.{is_within}
-use Rattle.formula_tree.specs.RationalForms.{RationalForm, Overflow, numbers_of, formed_number, formed_form, lowest_form, sum_of_forms, multiple_of_form, product_of_forms, variable_form, forms, formed, formed_difference}
+use Rattle.resolved_formulas.specs.RationalForms.{RationalForm, Overflow, numbers_of, formed_number, formed_form, lowest_form, sum_of_forms, multiple_of_form, product_of_forms, variable_form, forms, formed, formed_difference}
 use Rattle.printed_formulas.specs.Written.{number_term, signed_term, factor_term, multiple_term, constant_term, later_constant_terms, member_terms, form_term}
 use Rattle.exact_numbers.specs.Limit.{InLimit}
 use Rattle.formula_meaning.specs.Numbers.{AllInLimit, IsFormInLimit}

@@ -14,10 +14,10 @@ use Rattle.qe_syntax.specs.Trees.{TermTree, Named, Product, terms_of, FormulaTre
 use Rattle.qe_syntax.specs.Value.{same_name}
 use Rattle.qe_syntax.specs.Valued.{IsIn}
 use Rattle.redlog_reader.specs.Grammar.{sum_of}
-use Rattle.formula_tree.specs.Names.{with_name}
-use Rattle.formula_tree.specs.Resolving.{place, variables_of, variables_in, atom_variables, formula_variables, all_variables}
-use Rattle.formula_tree.specs.NamesAfter.{names_after}
-use Rattle.formula_tree.proofs.PlaceLaws.{same_itself, slice_place, one_place}
+use Rattle.formula_tree.specs.Names.{with_name, place}
+use Rattle.resolved_formulas.specs.Resolving.{variables_of, variables_in, atom_variables, formula_variables, all_variables}
+use Rattle.resolved_formulas.specs.NamesAfter.{names_after}
+use Rattle.resolved_formulas.proofs.PlaceLaws.{same_itself, slice_place, one_place}
 use Rattle.redlog_printer.specs.Text.{name_at}
 use Rattle.formula_meaning.specs.Within.{AreTermsWithin, IsAtomWithin}
 use Rattle.printed_formulas.specs.Written.{number_term, signed_term, factor_term, multiple_term, constant_term, later_constant_terms, member_terms, form_term, written_atom, written_formula}

@@ -15,10 +15,10 @@ use Rattle.statement_syntax.specs.Statements.{StatementTree, Say, Echo}
 use Rattle.redlog_reader.specs.declared.read.TheConstants.{BYTE_LIMIT}
 use Rattle.redlog_tokens.specs.declared.level.TheConstants.{LEVEL_LIMIT}
 use Rattle.redlog_reader.specs.Statement.{Spells, IsDeep}
-use Rattle.formula_tree.specs.Resolving.{resolve}
-use Rattle.formula_tree.specs.NamesAfter.{names_after}
-use Rattle.formula_tree.specs.Causes.{most_height}
-use Rattle.formula_tree.specs.Accepted.{IsAccepted}
+use Rattle.resolved_formulas.specs.Resolving.{resolve}
+use Rattle.resolved_formulas.specs.NamesAfter.{names_after}
+use Rattle.resolved_formulas.specs.Causes.{most_height}
+use Rattle.resolved_formulas.specs.Accepted.{IsAccepted}
 use Rattle.redlog_printer.specs.Text.{tree_text}
 use Rattle.formula_meaning.specs.Members.{HasTwoMembers}
 use Rattle.formula_meaning.specs.Within.{IsAtomWithin, IsTreeWithin}

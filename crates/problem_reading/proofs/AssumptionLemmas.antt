@@ -12,7 +12,7 @@ use Rattle.qe_syntax.specs.Trees.{FormulaTree, FormulaTrees, formulas_of}
 use Rattle.qe_syntax.specs.CodeTrees.{formula_tree}
 use Rattle.qe_syntax.specs.Value.{NamedPoint, same_name}
 use Rattle.formula_tree.specs.Names.{with_name}
-use Rattle.formula_tree.specs.Resolving.{resolve, at_names, formula_variables, all_variables}
+use Rattle.resolved_formulas.specs.Resolving.{resolve, at_names, formula_variables, all_variables}
 use Rattle.formula_resolving.specs.declared.error.StaticError.{StaticError}
 use Rattle.formula_resolving.specs.declared.error.StaticError.TheVariants as static
 use Rattle.formula_resolving.specs.Refusals as reading

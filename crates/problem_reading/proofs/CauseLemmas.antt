@@ -2,9 +2,9 @@
 use Rattle.std.proofs.Common.{◌≡◌, ◌≢◌, inl, inr, ⊎_elim, ℕ, List, [], ◌∷◌, ◌++◌, sym, ap, ◌∙◌, subst, refl, rules}
 use Rattle.formula_meaning.specs.Some.{SomeOf, EachOf}
 use Rattle.qe_syntax.specs.Trees.{FormulaTree, FormulaTrees}
-use Rattle.formula_tree.specs.Resolving.{place}
-use Rattle.formula_tree.specs.NamesAfter.{names_after}
-use Rattle.formula_tree.specs.Causes.{IsBound, IsNonlinear, Divides, IsBadModulus, OverflowsInReading}
+use Rattle.formula_tree.specs.Names.{place}
+use Rattle.resolved_formulas.specs.NamesAfter.{names_after}
+use Rattle.resolved_formulas.specs.Causes.{IsBound, IsNonlinear, Divides, IsBadModulus, OverflowsInReading}
 use Rattle.formula_resolving.specs.declared.error.StaticError.{StaticError}
 use Rattle.formula_resolving.specs.declared.error.StaticError.TheVariants as static
 use Rattle.formula_resolving.specs.Refusals as reading

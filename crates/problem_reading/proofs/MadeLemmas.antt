@@ -6,7 +6,7 @@ use Rattle.formula_meaning.specs.Atom.{Atom}
 use Rattle.formula_meaning.specs.Tree.{Tree}
 use Rattle.formula_tree.specs.declared.shape.Shape.{Shape}
 use Rattle.formula_tree.specs.Makers.{IsMade, AreMade}
-use Rattle.formula_tree.specs.Resolving.{resolve}
+use Rattle.resolved_formulas.specs.Resolving.{resolve}
 use Rattle.formula_store.specs.declared.id.FormulaId.{FormulaId}
 use Rattle.formula_store.specs.Nodes.{tree, IsId}
 use Rattle.qe_syntax.specs.declared.tree.Formula.{Formula}

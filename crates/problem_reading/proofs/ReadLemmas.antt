@@ -4,7 +4,7 @@ use Rattle.formula_meaning.specs.Context.{Context}
 use Rattle.formula_meaning.specs.Tree.{Tree}
 use Rattle.atom_normal.specs.declared.atoms.Context as atoms
 use Rattle.qe_syntax.specs.Trees.{FormulaTree}
-use Rattle.formula_tree.specs.Resolving.{resolve}
+use Rattle.resolved_formulas.specs.Resolving.{resolve}
 use Rattle.command_tools.specs.FromSessionMeaning.{State, atoms_alone, atoms_among, resolved_all, assumed}
 use Rattle.problem_reading.specs.Reading.{HasNumbers, IsReadable}
 use Rattle.std.proofs.Common.{◌++◌, length}
@@ -13,10 +13,10 @@ use Rattle.formula_meaning.specs.Formula.{none, also}
 use Rattle.qe_syntax.specs.Trees.{FormulaTrees}
 use Rattle.qe_syntax.specs.Writable.{IsWritableFormula, AreWritableFormulas}
 use Rattle.qe_syntax.specs.Valued.{IsIn}
-use Rattle.formula_tree.proofs.PlaceLaws.{after_has, in_either}
+use Rattle.resolved_formulas.proofs.PlaceLaws.{after_has, in_either}
 use Rattle.atom_normal.specs.NormalForm.{IsNormal}
 use Rattle.formula_meaning.specs.Some.{EachOf}
-use Rattle.formula_tree.specs.Resolving.{formula_variables, all_variables}
+use Rattle.resolved_formulas.specs.Resolving.{formula_variables, all_variables}
 use Rattle.problem_reading.specs.Reading.{AreNumbered, AreReadable}
 use Rattle.formula_tree.specs.Names.{with_name}
 use Rattle.command_tools.specs.FromSessionState.{IsSessionFormula, IsSound}

@@ -6,8 +6,8 @@ use Rattle.formula_meaning.specs.Tree.{TrueAt}
 use Rattle.qe_syntax.specs.Trees.{FormulaTree}
 use Rattle.qe_syntax.specs.Value.{NamedPoint, same_name}
 use Rattle.qe_syntax.specs.Value as written
-use Rattle.formula_tree.specs.Resolving.{at_names, resolve, bound_truth}
-use Rattle.formula_tree.proofs.ResolvedTruth.{resolving_keeps_truth}
+use Rattle.resolved_formulas.specs.Resolving.{at_names, resolve, bound_truth}
+use Rattle.resolved_formulas.proofs.ResolvedTruth.{resolving_keeps_truth}
 use Rattle.command_tools.specs.FromSessionMeaning.{State}
 use Rattle.problem_reading.specs.Reading.{HasNumbers, IsReadable}
 

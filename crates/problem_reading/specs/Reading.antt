@@ -13,9 +13,9 @@ use Rattle.command_tools.specs.FromSharedForms.{Premised}
 use Rattle.qe_syntax.specs.declared.tree.Formula.{Formula}
 use Rattle.qe_syntax.specs.Trees.{FormulaTree, FormulaTrees}
 use Rattle.qe_syntax.specs.CodeTrees.{formula_tree}
-use Rattle.formula_tree.specs.Resolving.{resolve}
-use Rattle.formula_tree.specs.NamesAfter.{names_after}
-use Rattle.formula_tree.specs.Accepted.{IsAccepted as IsResolvable}
+use Rattle.resolved_formulas.specs.Resolving.{resolve}
+use Rattle.resolved_formulas.specs.NamesAfter.{names_after}
+use Rattle.resolved_formulas.specs.Accepted.{IsAccepted as IsResolvable}
 use Rattle.formula_resolving.specs.declared.error.StaticError.{StaticError}
 use Rattle.formula_resolving.specs.declared.error.StaticError.TheVariants as static
 use Rattle.formula_resolving.specs.Refusals.{Applies, order, before}

@@ -6,7 +6,7 @@ ghost use Rattle.std.specs.List.{AllByRecursion, fold};
 ghost use Rattle.atom_normal.specs.Atoms.{atom_of, IsWellFormed};
 ghost use Rattle.formula_tree.specs.Makers.{AreMade};
 ghost use Rattle.formula_tree.specs.Names.{with_name};
-ghost use Rattle.formula_tree.specs.Resolving.{resolve, formula_variables, all_variables};
+ghost use Rattle.resolved_formulas.specs.Resolving.{resolve, formula_variables, all_variables};
 ghost use Rattle.formula_resolving.specs.Numbering.{Grows};
 ghost use Rattle.formula_resolving.specs.BoundIds.{AreIds};
 ghost use Rattle.formula_store.specs.Nodes.{tree, IsId};

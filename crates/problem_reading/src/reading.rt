@@ -2,7 +2,7 @@
 
 ghost use Rattle.std.specs.Prelude.{◌<◌, IfOk, IfErr, OnOk};
 ghost use Rattle.formula_tree.specs.Makers.{IsMade};
-ghost use Rattle.formula_tree.specs.Resolving.{resolve};
+ghost use Rattle.resolved_formulas.specs.Resolving.{resolve};
 ghost use Rattle.formula_resolving.specs.BoundIds.{AreIds};
 ghost use Rattle.formula_resolving.specs.FirstCause.{IsFirstCause};
 ghost use Rattle.formula_store.specs.Nodes.{tree, IsId};

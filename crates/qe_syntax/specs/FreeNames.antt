@@ -1,6 +1,5 @@
 -- Free names of a written formula.
 use Rattle.std.specs.Prelude.{ℕ, List}
-use Rattle.formula_meaning.specs.Atom as meaning
 use Rattle.formula_meaning.specs.Every.{Free}
 use Rattle.qe_syntax.specs.Trees.{FormulaTree}
 use Rattle.qe_syntax.specs.Value.{NamedPoint, Mentions}

@@ -1,4 +1,3 @@
-pub mod Padding
 pub mod Names
 pub mod Trees
 pub mod CodeTrees

@@ -4,12 +4,6 @@ use Rattle.formula_meaning.specs.Formula.{Formula, Formulas}
 use Rattle.formula_meaning.specs.Formula as plain
 use Rattle.qe_syntax.specs.declared.tree.Literal.{Literal}
 use Rattle.qe_syntax.specs.declared.tree.Relation.{Relation}
-use Rattle.qe_syntax.specs.declared.tree.Term as code
-use Rattle.qe_syntax.specs.declared.tree.Term.TheOpen as layer
-use Rattle.qe_syntax.specs.declared.tree.Terms as codes
-use Rattle.qe_syntax.specs.declared.tree.Formula as written
-use Rattle.qe_syntax.specs.declared.tree.Formula.TheOpen as open_formula
-use Rattle.qe_syntax.specs.declared.tree.Formulas as writtens
 
 -- a term as it is written; a name is its list of bytes
 mutual

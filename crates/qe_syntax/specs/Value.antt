@@ -1,7 +1,7 @@
 -- What terms and formulas mean as they are written, over unlimited numbers. Truth is a fact and not a test.
 use Rattle.std.specs.Ordering.{int_eq}
-use Rattle.std.specs.Prelude.{◌≡◌, ℕ, ◌⊎◌, ℤ, pos, ◌*ℤ◌, unsigned_abs, List, Bool, nat_eq, if◌then◌else◌}
-use Rattle.std.specs.Cmp.Lexicographic.{pointwise}
+use Rattle.std.specs.Prelude.{◌≡◌, ℕ, ◌⊎◌, ℤ, pos, ◌*ℤ◌, unsigned_abs, List, if◌then◌else◌}
+pub use Rattle.qe_names.specs.SameName.{same_name}
 use Rattle.formula_meaning.specs.FromExactNumbers.{Frac, SameValue, whole_frac, true_sum, true_product, true_power, negated, inverted}
 use Rattle.formula_meaning.specs.Context.{Context}
 use Rattle.formula_meaning.specs.Point.{Point, move}
@@ -70,10 +70,6 @@ Says named (Compare rel s t) p = RelatesFractions rel (value s p) (value t p)
 Says named (Cong s t m) p = IsCongruent (value s p) (value t p) (value m p)
 Says named (Ncong s t m) p = ¬ (IsCongruent (value s p) (value t p) (value m p))
 Says named (Bound x) p = named x p
-
--- the names have the same bytes
-abbrev pub same_name : List ℕ → List ℕ → Bool
-same_name = pointwise nat_eq
 
 -- the formula is true at the point
 abbrev pub TrueAt : (List ℕ → NamedPoint → Type 0) → Context → FormulaTree → NamedPoint → Type 0

@@ -1,8 +1,8 @@
 ghost use Rattle.std.specs.Prelude.{◌≡◌};
 ghost use Rattle.qe_syntax.specs.declared.entries.PointEntry.{PointEntry};
 
-use crate::name::Name;
 use crate::tree::Literal;
+use qe_names::Name;
 use std::marker::Model;
 
 /// The value that a point gives to one name: `above / below`. A `-` makes `above` negative, and what has no

@@ -3,7 +3,6 @@
 
 mod entries;
 mod laws;
-mod name;
 mod point;
 mod tree;
 mod truth;
@@ -13,8 +12,8 @@ mod valued;
 pub use entries::{Entries, PointEntry};
 pub use formula_meaning::Fraction;
 pub use laws::one_point;
-pub use name::Name;
 pub use point::{Point, PointFault};
+pub use qe_names::Name;
 pub use tree::{
     Formula, Formulas, Literal, Relation, Term, Terms, comparison, congruence, equivalence,
     existential, implication, incongruence, negation, negative, power, quotient, replication,

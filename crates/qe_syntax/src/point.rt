@@ -8,9 +8,9 @@ ghost use Rattle.qe_syntax.specs.PointNumbers.{IsLowestValue, IsReady, SetsNumbe
 ghost use Rattle.qe_syntax.specs.PointFaults.{PutFault, IsChecked, CheckFault};
 
 use crate::entries::PointEntry;
-use crate::name::Name;
 use crate::tree::Literal;
 use formula_meaning::{Fraction, lcm, residue};
+use qe_names::Name;
 use std::alloc::{AllocError, Global};
 use std::collections::{BTreeMap, BTreeSet};
 use std::marker::Model;

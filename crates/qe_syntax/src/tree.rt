@@ -3,7 +3,7 @@ ghost use Rattle.qe_syntax.specs.Trees.{terms_of, formulas_of, Quotient, Power, 
 ghost use Rattle.qe_syntax.specs.CodeTrees.{term_tree, term_trees, formula_tree, formula_trees};
 ghost use Rattle.formula_meaning.specs.Formula.{One, Not, Impl, Repl, Equiv, Ex, All};
 
-use crate::name::Name;
+use qe_names::Name;
 use std::alloc::{AllocError, Global};
 
 /// A number as it is written in a formula: its value, or `Past` where that is above 2^127 - 1.

@@ -8,10 +8,10 @@ ghost use Rattle.qe_syntax.specs.Value.{value};
 ghost use Rattle.qe_syntax.specs.Rule.{calculated, added, multiplied, literal_fraction, quotient_step, power_step};
 ghost use Rattle.qe_syntax.specs.Evaluates.{Evaluates};
 
-use crate::name::Name;
 use crate::point::Point;
 use crate::tree::{Literal, Term};
 use formula_meaning::Fraction;
+use qe_names::Name;
 use thiserror::Error;
 
 /// What stops the calculation of a value, from left to right the first.

@@ -12,8 +12,8 @@ ghost use Rattle.qe_syntax.specs.FreeNames.{IsFree};
 ghost use Rattle.qe_syntax.specs.Valued.{AreAmong, AreFree, prefix_of, matrix_of, IsUnquantified, IsOpened, IsClosed};
 
 use crate::entries::PointEntry;
-use crate::name::Name;
 use crate::tree::{Formula, Term};
+use qe_names::Name;
 use std::alloc::{AllocError, Global};
 use std::collections::BTreeSet;
 

@@ -5,7 +5,7 @@ use Rattle.formula_meaning.specs.Context.{Context, Fields, Integers}
 use Rattle.formula_meaning.specs.Formula.{Yes}
 use Rattle.formula_meaning.specs.Tree.{Tree}
 use Rattle.statement_syntax.specs.Statements.{Echo}
-use Rattle.formula_tree.specs.Causes.{CongruenceInFields}
+use Rattle.resolved_formulas.specs.Causes.{CongruenceInFields}
 use Rattle.redlog_printer.specs.Text.{tree_text}
 use Rattle.session_meaning.specs.declared.line.StatementError.{StatementError}
 use Rattle.session_meaning.specs.declared.line.StatementError.TheVariants as error

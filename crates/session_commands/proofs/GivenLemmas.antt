@@ -19,7 +19,7 @@ use Rattle.formula_meaning.specs.Every.{Every}
 use Rattle.formula_meaning.specs.Numbers.{IsAtomInLimit}
 use Rattle.formula_meaning.specs.Sizes.{nodes}
 use Rattle.formula_meaning.specs.Some.{EachOf}
-use Rattle.formula_tree.specs.Resolving.{BoundTrees, bound_truth, formula_variables, all_variables, resolve, at_names}
+use Rattle.resolved_formulas.specs.Resolving.{BoundTrees, bound_truth, formula_variables, all_variables, resolve, at_names}
 use Rattle.qe_syntax.specs.Value as written
 use Rattle.redlog_printer.specs.Text.{tree_text}
 use Rattle.point_queries.specs.FromCommandTools.{use_of, Refuses, state_with, IsFormulaAnswer, forms_refusal, IsLongText, LineFault, static_refusal}

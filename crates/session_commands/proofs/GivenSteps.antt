@@ -18,8 +18,8 @@ use Rattle.qe_syntax.specs.Writable.{IsWritableFormula, AreWritableFormulas}
 use Rattle.qe_syntax.specs.Value.{same_name}
 use Rattle.formula_tree.specs.Bindings.{bind}
 use Rattle.formula_tree.specs.Names.{with_name}
-use Rattle.formula_tree.specs.Resolving.{formula_variables, all_variables, resolve}
-use Rattle.formula_tree.proofs.PlaceLaws.{after_distinct}
+use Rattle.resolved_formulas.specs.Resolving.{formula_variables, all_variables, resolve}
+use Rattle.resolved_formulas.proofs.PlaceLaws.{after_distinct}
 use Rattle.formula_resolving.specs.Numbering.{Grows}
 use Rattle.formula_resolving.specs.BoundIds.{AreIds}
 use Rattle.formula_tree.specs.declared.shape.Shape.{Shape}

@@ -1,7 +1,7 @@
 -- The reference elimination after a condition by cases that is too large.
 use Rattle.std.proofs.Common.{◌≡◌, ⊎_elim, ℕ, List, Bool, Option, Some, None, refl, sym, subst}
 use Rattle.std.specs.Prelude.{MatchOption, Result, IfOk, IfErr, OnErr}
-use Rattle.formula_tree.specs.Resolving.{BoundTrees}
+use Rattle.resolved_formulas.specs.Resolving.{BoundTrees}
 use Rattle.qe_syntax.specs.Trees.{FormulaTree}
 use Rattle.session_meaning.specs.Causes.{HasNoRoom}
 use Rattle.session_meaning.specs.declared.line.Line.{Line}

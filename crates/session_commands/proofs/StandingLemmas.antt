@@ -7,7 +7,7 @@ use Rattle.formula_meaning.specs.Some.{EachOf}
 use Rattle.formula_meaning.specs.Tree.{Tree}
 use Rattle.formula_meaning.specs.Within.{IsTreeWithin}
 use Rattle.formula_tree.specs.Names.{with_name}
-use Rattle.formula_tree.specs.Resolving.{all_variables}
+use Rattle.resolved_formulas.specs.Resolving.{all_variables}
 use Rattle.formula_resolving.specs.Numbering.{Grows}
 use Rattle.formula_store.specs.declared.id.FormulaId.{FormulaId}
 use Rattle.formula_store.specs.Nodes.{tree}
@@ -26,7 +26,7 @@ use Rattle.session_meaning.specs.Uses.{Use}
 use Rattle.session_meaning.specs.Words.{before}
 use Rattle.point_queries.specs.FromSessionState.{SessionState, state_of, IsSessionFormula, IsSound, IsSessionState, KeepsState, GrowsState}
 use Rattle.point_queries.proofs.FromSessionState.{state_parts, same_state, same_session, sound_with, length_grows, keeps_itself, grows_then, AllVariables, variables_of_all, all_put_in}
-use Rattle.formula_tree.proofs.PlaceLaws.{after_has, after_distinct}
+use Rattle.resolved_formulas.proofs.PlaceLaws.{after_has, after_distinct}
 use Rattle.qe_syntax.specs.Value.{same_name}
 use Rattle.point_queries.specs.FromStandingAssumptions.{Assumption, standing_trees, IsFront}
 use Rattle.point_queries.specs.FromCommandTools.{use_of, IsLongText, LineFault}

@@ -7,7 +7,7 @@ use Rattle.qe_syntax.specs.Trees.{FormulaTree, FormulaTrees}
 use Rattle.qe_syntax.specs.CodeTrees.{formula_trees}
 use Rattle.statement_syntax.specs.Statements.{CommandTree, Echo, Nnf, Pnf, Dnf, Cnf, Simpl, Qe}
 use Rattle.formula_tree.specs.Bindings.{bind}
-use Rattle.formula_tree.specs.Resolving.{BoundTrees, resolve}
+use Rattle.resolved_formulas.specs.Resolving.{BoundTrees, resolve}
 use Rattle.formula_store.specs.declared.id.FormulaId.{FormulaId}
 use Rattle.session_meaning.specs.declared.line.Line.{Line}
 use Rattle.session_meaning.specs.declared.line.StatementError.{StatementError}

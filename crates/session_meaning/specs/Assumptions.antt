@@ -7,7 +7,7 @@ use Rattle.formula_meaning.specs.Tree as tree
 use Rattle.formula_meaning.specs.Tree.{Tree}
 use Rattle.qe_syntax.specs.Trees.{FormulaTrees}
 use Rattle.qe_syntax.specs.Value.{NamedPoint, TrueAt}
-use Rattle.formula_tree.specs.Resolving.{resolve, at_names, bound_truth}
+use Rattle.resolved_formulas.specs.Resolving.{resolve, at_names, bound_truth}
 use Rattle.session_meaning.specs.State.{State}
 
 -- the formula, where it is an atom

@@ -12,7 +12,7 @@ use Rattle.atom_normal.specs.NormalForm.{IsNormal}
 use Rattle.case_theory.specs.FromEliminationReference.{Case, case_sign, case_matrix, case_names, guards_of, answer_names, AreAnswersOver}
 use Rattle.qe_syntax.specs.Trees.{FormulaTree, FormulaTrees}
 use Rattle.qe_syntax.specs.Value as written
-use Rattle.formula_tree.specs.Resolving.{resolve, at_names, bound_truth}
+use Rattle.resolved_formulas.specs.Resolving.{resolve, at_names, bound_truth}
 use Rattle.formula_meaning.specs.Members.{HasTwoMembers}
 use Rattle.case_theory.specs.FromSimplifiedFormulas.{IsReduced}
 use Rattle.session_meaning.specs.State.{State}

@@ -6,8 +6,9 @@ use Rattle.formula_meaning.specs.Some.{SomeOf, EachOf}
 use Rattle.formula_meaning.specs.Tree.{Tree, tree_distinct}
 use Rattle.qe_syntax.specs.Trees.{FormulaTree, FormulaTrees}
 use Rattle.formula_tree.specs.Bindings.{bound_to, most_bound}
-use Rattle.formula_tree.specs.Resolving.{BoundTrees, place}
-use Rattle.formula_tree.specs.Causes.{IsUnbound, NamesFormulaAsTerm, IsBound, IsNonlinear, Divides, CongruenceInFields, IsBadModulus, IsTooDeep, OverflowsInReading}
+use Rattle.resolved_formulas.specs.Resolving.{BoundTrees}
+use Rattle.formula_tree.specs.Names.{place}
+use Rattle.resolved_formulas.specs.Causes.{IsUnbound, NamesFormulaAsTerm, IsBound, IsNonlinear, Divides, CongruenceInFields, IsBadModulus, IsTooDeep, OverflowsInReading}
 use Rattle.redlog_printer.specs.Writing.{text_limit}
 use Rattle.session_meaning.specs.declared.TheConstants.{MOST_SUBFORMULAS}
 use Rattle.session_meaning.specs.declared.line.StatementError.{StatementError}

@@ -14,8 +14,8 @@ use Rattle.qe_syntax.specs.declared.tree.Literal.{Literal}
 use Rattle.qe_syntax.specs.declared.tree.Literal.TheVariants.{Past}
 use Rattle.qe_syntax.specs.Trees.{FormulaTrees}
 use Rattle.qe_syntax.specs.Value.{NamedPoint, literal_number}
-use Rattle.formula_tree.specs.Names.{with_name}
-use Rattle.formula_tree.specs.Resolving.{all_variables, place}
+use Rattle.formula_tree.specs.Names.{with_name, place}
+use Rattle.resolved_formulas.specs.Resolving.{all_variables}
 use Rattle.fourier_motzkin.specs.FromSampleReference.{Value, value_names, with_values, IsValue, origin}
 use Rattle.fourier_motzkin.specs.FromFarkasTheory.constraints_rules as farkas
 use Rattle.fourier_motzkin.specs.FromFarkasTheory.{Constraint, nothing, AreAllowed, IsFarkas, SumPasses}

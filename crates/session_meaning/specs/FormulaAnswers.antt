@@ -14,7 +14,7 @@ use Rattle.prenex_forms.specs.Forms.{OverflowsInRenaming}
 use Rattle.qe_syntax.specs.Names.{IsVariable}
 use Rattle.qe_syntax.specs.Trees.{FormulaTree, FormulaTrees}
 use Rattle.qe_syntax.specs.Value as written
-use Rattle.formula_tree.specs.Resolving.{resolve, at_names, bound_truth}
+use Rattle.resolved_formulas.specs.Resolving.{resolve, at_names, bound_truth}
 use Rattle.formula_meaning.specs.Members.{HasTwoMembers}
 use Rattle.redlog_printer.specs.Text.{tree_text}
 use Rattle.clean_forms.specs.Clean.{IsCleanForm}

@@ -11,7 +11,8 @@ use Rattle.qe_syntax.specs.Trees.{FormulaTree}
 use Rattle.qe_syntax.specs.Value.{TrueAt}
 use Rattle.statement_syntax.specs.declared.grid.Ratio.{Ratio}
 use Rattle.statement_syntax.specs.declared.grid.GridAxis.{GridAxis}
-use Rattle.formula_tree.specs.Resolving.{resolve, place, bound_truth}
+use Rattle.resolved_formulas.specs.Resolving.{resolve, bound_truth}
+use Rattle.formula_tree.specs.Names.{place}
 use Rattle.point_grid.specs.declared.axis.Axis.{Axis}
 use Rattle.point_grid.specs.Frames.{points_of}
 use Rattle.point_grid.specs.Grids.{grid_of, GridPasses, HasTooMany}

@@ -19,8 +19,8 @@ use Rattle.qe_syntax.specs.Point.{PassesLimit, IsPointOf}
 use Rattle.statement_syntax.specs.Statements.{CommandTree, Echo, Nnf, Pnf, Dnf, Cnf, Simpl, Qe, Qea, Holds, Sample, Grid, Certify, Check, Least}
 use Rattle.qe_syntax.specs.Trees.{FormulaTree, FormulaTrees}
 use Rattle.qe_syntax.specs.Value.{NamedPoint}
-use Rattle.formula_tree.specs.Names.{with_name}
-use Rattle.formula_tree.specs.Resolving.{all_variables, place, resolve, at_names}
+use Rattle.formula_tree.specs.Names.{with_name, place}
+use Rattle.resolved_formulas.specs.Resolving.{all_variables, resolve, at_names}
 use Rattle.clean_forms.specs.Plain.{plain_form, literals}
 use Rattle.prenex_forms.specs.Forms.{OverflowsInRenaming}
 use Rattle.redlog_printer.specs.Writing.{text_limit}

@@ -2,7 +2,7 @@
 use Rattle.std.specs.Prelude.{ℕ, List}
 use Rattle.formula_meaning.specs.Point.{Point}
 use Rattle.qe_syntax.specs.Value.{NamedPoint}
-use Rattle.formula_tree.specs.Resolving.{place}
+use Rattle.formula_tree.specs.Names.{place}
 
 -- each name has the value of its number
 abbrev pub by_names : List (List ℕ) → Point ℕ → NamedPoint

@@ -13,8 +13,8 @@ use Rattle.qe_syntax.specs.declared.entries.PointEntry.{PointEntry}
 use Rattle.qe_syntax.specs.Trees.{FormulaTree}
 use Rattle.qe_syntax.specs.Point.{NamesTwice, IsZeroBelow, IsBroken, IsPointOf}
 use Rattle.qe_syntax.specs.Value.{NamedPoint, TrueAt}
-use Rattle.formula_tree.specs.Resolving.{BoundTrees, resolve, at_names, bound_truth, IsFreeInPlace}
-use Rattle.formula_tree.specs.Causes.{atom_in_place}
+use Rattle.resolved_formulas.specs.Resolving.{BoundTrees, resolve, at_names, bound_truth, IsFreeInPlace}
+use Rattle.resolved_formulas.specs.Causes.{atom_in_place}
 use Rattle.formula_tree.specs.Quantified.{has_quantifier}
 use Rattle.free_names.specs.Entries.{HasEntryAt}
 use Rattle.session_meaning.specs.State.{State}

@@ -10,7 +10,7 @@ use Rattle.qe_syntax.specs.declared.entries.PointEntry.{PointEntry}
 use Rattle.qe_syntax.specs.Point.{IsPointOf}
 use Rattle.qe_syntax.specs.Trees.{FormulaTree}
 use Rattle.qe_syntax.specs.Value as written
-use Rattle.formula_tree.specs.Resolving.{resolve, at_names, bound_truth}
+use Rattle.resolved_formulas.specs.Resolving.{resolve, at_names, bound_truth}
 use Rattle.session_meaning.specs.State.{State}
 use Rattle.session_meaning.specs.Cases.{Turned}
 use Rattle.session_meaning.specs.FormulaAnswers.{negation_normal_of}

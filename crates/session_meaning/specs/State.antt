@@ -6,7 +6,7 @@ use Rattle.statement_syntax.specs.declared.statement.Setting.{Setting}
 use Rattle.statement_syntax.specs.declared.statement.Setting.TheVariants.{Ofsf, Pasf}
 use Rattle.formula_meaning.specs.Tree.{Tree}
 use Rattle.formula_tree.specs.Bindings.{bind}
-use Rattle.formula_tree.specs.Resolving.{BoundTrees}
+use Rattle.resolved_formulas.specs.Resolving.{BoundTrees}
 
 -- what one statement leaves to the next: theory, names, bound formulas, and standing assumptions
 pub record State : Type 0 where

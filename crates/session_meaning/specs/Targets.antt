@@ -13,8 +13,8 @@ use Rattle.qe_syntax.specs.declared.tree.Relation.TheVariants.{Equal}
 use Rattle.qe_syntax.specs.Trees.{TermTree, Named, Compare, FormulaTree, FormulaTrees}
 use Rattle.qe_syntax.specs.Value.{value}
 use Rattle.redlog_reader.specs.Grammar.{quantified_names}
-use Rattle.formula_tree.specs.Names.{with_name}
-use Rattle.formula_tree.specs.Resolving.{variables_of, all_variables, place, resolve}
+use Rattle.formula_tree.specs.Names.{with_name, place}
+use Rattle.resolved_formulas.specs.Resolving.{variables_of, all_variables, resolve}
 use Rattle.case_theory.specs.FromEliminationReference.{reference}
 use Rattle.fourier_motzkin.specs.FromSampleReference.{reference_sample, Value, value_names, with_values, IsValue, origin}
 use Rattle.least_theory.specs.Target.{IsInfeasible, IsUnbounded}

@@ -11,7 +11,7 @@ use Rattle.qe_syntax.specs.Value.{same_name}
 use Rattle.formula_tree.specs.Bindings.{bound_to, bind, most_bound}
 use Rattle.formula_tree.specs.Makers.{Keeps}
 use Rattle.formula_tree.specs.Names.{with_name}
-use Rattle.formula_tree.proofs.PlaceLaws.{same_is, one_place, after_distinct}
+use Rattle.resolved_formulas.proofs.PlaceLaws.{same_is, one_place, after_distinct}
 use Rattle.standing_assumptions.specs.FromFormulaResolving.{AreIds, trees_bound}
 use Rattle.standing_assumptions.specs.FromSessionMeaning.{HasNoRoom}
 

@@ -6,10 +6,10 @@ use Rattle.std.specs.List.{list_any, fold}
 use Rattle.qe_syntax.specs.Trees.{FormulaTree}
 use Rattle.qe_syntax.specs.Value.{same_name}
 use Rattle.qe_syntax.specs.Valued.{IsIn}
-use Rattle.formula_tree.specs.Names.{with_name}
-use Rattle.formula_tree.specs.Resolving.{place, formula_variables}
-use Rattle.formula_tree.specs.NamesAfter.{names_after}
-use Rattle.formula_tree.proofs.PlaceLaws.{same_itself, slice_place, after_has, in_either}
+use Rattle.formula_tree.specs.Names.{with_name, place}
+use Rattle.resolved_formulas.specs.Resolving.{formula_variables}
+use Rattle.resolved_formulas.specs.NamesAfter.{names_after}
+use Rattle.resolved_formulas.proofs.PlaceLaws.{same_itself, slice_place, after_has, in_either}
 use Rattle.standing_assumptions.specs.FromFormulaResolving.{Grows}
 
 or_true : (b c : Bool) → c ≡ true → (b || c) ≡ true

@@ -28,13 +28,14 @@ use Rattle.qe_syntax.specs.Valued.{IsIn}
 use Rattle.qe_syntax.specs.Proper.{AreFormulas}
 use Rattle.qe_syntax.specs.Writable.{IsWritableFormula, AreWritableFormulas}
 use Rattle.formula_tree.specs.Bindings.{bound_to}
-use Rattle.formula_tree.specs.RationalForms.{RationalForm, Missing}
-use Rattle.formula_tree.specs.Resolving.{BoundTrees, place, resolve, resolved_atom, compared, congruent}
-use Rattle.formula_tree.specs.NamesAfter.{names_after}
-use Rattle.formula_tree.specs.Accepted.{IsAccepted as IsResolvable}
-use Rattle.formula_tree.proofs.Nowhere.{every_both, quantified_have}
-use Rattle.formula_tree.proofs.ResolvedTruth.{IsPlain, all_plain, is_normal}
-use Rattle.formula_tree.proofs.ResolvedNames.{atom_named}
+use Rattle.resolved_formulas.specs.RationalForms.{RationalForm, Missing}
+use Rattle.resolved_formulas.specs.Resolving.{BoundTrees, resolve, resolved_atom, compared, congruent}
+use Rattle.formula_tree.specs.Names.{place}
+use Rattle.resolved_formulas.specs.NamesAfter.{names_after}
+use Rattle.resolved_formulas.specs.Accepted.{IsAccepted as IsResolvable}
+use Rattle.resolved_formulas.proofs.Nowhere.{every_both, quantified_have}
+use Rattle.resolved_formulas.proofs.ResolvedTruth.{IsPlain, all_plain, is_normal}
+use Rattle.resolved_formulas.proofs.ResolvedNames.{atom_named}
 use Rattle.formula_meaning.specs.Within.{IsAtomWithin, AreTermsWithin}
 use Rattle.formula_meaning.specs.Members.{HasTwoMembers, HaveTwoMembers, AreTwo}
 use Rattle.standing_assumptions.proofs.FromPrenexForms.{bound_normal_form}

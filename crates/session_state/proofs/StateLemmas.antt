@@ -11,7 +11,7 @@ use Rattle.atom_normal.specs.Atoms.{context_of}
 use Rattle.qe_syntax.specs.Value.{same_name}
 use Rattle.formula_tree.specs.declared.shape.Shape.{Shape}
 use Rattle.formula_tree.specs.Makers.{AreMade}
-use Rattle.formula_tree.specs.Resolving.{BoundTrees}
+use Rattle.resolved_formulas.specs.Resolving.{BoundTrees}
 use Rattle.standing_assumptions.specs.FromFormulaResolving.{Grows, AreIds, trees_bound}
 use Rattle.formula_store.specs.declared.id.FormulaId.{FormulaId}
 use Rattle.formula_store.specs.Nodes.{tree, IsId}

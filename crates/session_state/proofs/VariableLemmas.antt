@@ -10,7 +10,7 @@ use Rattle.qe_syntax.specs.Trees.{TermTree, TermTrees, Number, Named, Sum, Produ
 use Rattle.qe_syntax.specs.Writable.{IsWritableTerm, AreWritableTerms, IsWritableAtom, IsWritableFormula, AreWritableFormulas}
 use Rattle.qe_syntax.specs.Value.{same_name}
 use Rattle.formula_tree.specs.Names.{with_name}
-use Rattle.formula_tree.specs.Resolving.{variables_of, variables_in, atom_variables, formula_variables, all_variables}
+use Rattle.resolved_formulas.specs.Resolving.{variables_of, variables_in, atom_variables, formula_variables, all_variables}
 
 abbrev pub AllVariables : List (List ℕ) → Type 0
 AllVariables xs = AllByRecursion IsVariable xs

@@ -5,7 +5,7 @@ use Rattle.std.specs.List.{IsDistinct, list_any}
 use Rattle.formula_meaning.specs.Some.{Among}
 use Rattle.qe_syntax.specs.Value.{same_name}
 use Rattle.formula_tree.specs.Names.{with_name}
-use Rattle.formula_tree.proofs.PlaceLaws.{after_distinct}
+use Rattle.resolved_formulas.proofs.PlaceLaws.{after_distinct}
 use Rattle.session_state.specs.FromFormulaResolving.{Grows}
 use Rattle.prenex_theory.specs.NewNames.{new_text, IsFirstNew, AddsNewNames}
 use Rattle.session_state.proofs.FromPrenexForms.{any_among}

@@ -26,7 +26,7 @@ use Rattle.linear_forms.specs.declared.form.VarId.{VarId}
 use Rattle.engine_answers.specs.FromSampleReference.{IsTrueSample, values_of, value_of, sample_of, value_names}
 use Rattle.session_state.specs.FromAnswerTexts.{separated, fraction_text, value_text, point_text}
 use Rattle.qe_syntax.specs.Names.{IsVariable}
-use Rattle.formula_tree.specs.Causes.{most_height}
+use Rattle.resolved_formulas.specs.Causes.{most_height}
 use Rattle.redlog_printer.specs.Text.{name_at, first_sign}
 use Rattle.redlog_printer.specs.Writing.{text_limit}
 use Rattle.session_state.specs.FromSessionMeaning.{sample_text}

@@ -11,10 +11,10 @@ use Rattle.formula_meaning.specs.declared.quantifier.Quantifier.{Quantifier}
 use Rattle.formula_meaning.specs.declared.quantifier.Quantifier.TheVariants.{Exists, ForAll}
 use Rattle.qe_syntax.specs.Trees.{TermTree, FormulaTree, Negative, terms_of, formulas_of}
 use Rattle.qe_syntax.specs.Value.{same_name}
-use Rattle.formula_tree.specs.Names.{with_name}
-use Rattle.formula_tree.specs.NamesAfter.{names_after}
-use Rattle.formula_tree.specs.Resolving.{place, variables_of, variables_in, formula_variables, all_variables}
-use Rattle.formula_tree.proofs.PlaceLaws.{same_itself}
+use Rattle.formula_tree.specs.Names.{with_name, place}
+use Rattle.resolved_formulas.specs.NamesAfter.{names_after}
+use Rattle.resolved_formulas.specs.Resolving.{variables_of, variables_in, formula_variables, all_variables}
+use Rattle.resolved_formulas.proofs.PlaceLaws.{same_itself}
 use Rattle.smt_meaning.specs.Levels.{level, levels, levels_from, closed}
 use Rattle.smt_meaning.specs.LevelsBelow.{IsLevelBelow, AreLevelsBelow}
 use Rattle.smt_meaning.specs.Shapes.{joined_of, neighbours, pairs, implications}

@@ -13,7 +13,7 @@ use Rattle.qe_syntax.specs.declared.tree.Relation.TheVariants as relation
 use Rattle.qe_syntax.specs.Trees as language
 use Rattle.qe_syntax.specs.Trees.{TermTree, FormulaTree, Negative, terms_of}
 use Rattle.qe_syntax.specs.Value.{same_name}
-use Rattle.formula_tree.specs.Resolving.{variables_of, formula_variables}
+use Rattle.resolved_formulas.specs.Resolving.{variables_of, formula_variables}
 use Rattle.smt_syntax.specs.declared.names.SortedName.{SortedName}
 use Rattle.smt_syntax.specs.declared.expression.Operator.{Operator}
 use Rattle.smt_syntax.specs.declared.expression.Operator.TheVariants as operator

@@ -5,7 +5,7 @@ use Rattle.formula_meaning.specs.Every.{Every}
 use Rattle.qe_syntax.specs.Trees.{TermTree, WrittenAtom, Compare, Cong, Ncong, Bound, Number, FormulaTree}
 use Rattle.qe_syntax.specs.FreeNames.{IsFree}
 use Rattle.qe_syntax.specs.Value.{HasName}
-use Rattle.formula_tree.specs.Resolving.{variables_of, formula_variables}
+use Rattle.resolved_formulas.specs.Resolving.{variables_of, formula_variables}
 use Rattle.smt_meaning.specs.LevelsBelow.{IsLevelBelow, AreLevelsBelow}
 use Rattle.smt_meaning.specs.Operators.{Meaning, Term, Formula}
 use Rattle.smt_meaning.specs.Proper.{IsPositive}

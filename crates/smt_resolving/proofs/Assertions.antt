@@ -4,8 +4,8 @@ use Rattle.std.specs.Prelude.{IsSome}
 use Rattle.formula_meaning.specs.Context.{Context}
 use Rattle.formula_meaning.specs.Tree.{Tree}
 use Rattle.qe_syntax.specs.Trees.{FormulaTree}
-use Rattle.formula_tree.specs.Accepted.{IsAccepted}
-use Rattle.formula_tree.specs.Resolving.{formula_variables}
+use Rattle.resolved_formulas.specs.Accepted.{IsAccepted}
+use Rattle.resolved_formulas.specs.Resolving.{formula_variables}
 use Rattle.formula_resolving.specs.MetCauses.{IsRefused}
 use Rattle.formula_resolving.specs.Parts.{AreTold, IsToldAlone}
 use Rattle.formula_resolving.specs.FirstCause.{IsFirstCause}

@@ -6,11 +6,11 @@ use Rattle.formula_meaning.specs.Formula.{Formula, Formulas, Yes, No, One, Not, 
 use Rattle.qe_syntax.specs.declared.tree.Literal.{Literal}
 use Rattle.qe_syntax.specs.declared.tree.Literal.TheVariants.{Fits, Past}
 use Rattle.qe_syntax.specs.Trees.{Number, Named, Sum, Product, Quotient, Power, Negative, WrittenAtom, Compare, Cong, Ncong, Bound, FormulaTree}
-use Rattle.formula_tree.specs.Causes.{HasNoTree, MentionsBound, IsBound, IsUnbound, NamesFormulaAsTerm, IsCongruence, CongruenceInFields, HasBadModulus, IsBadModulus, IsNoDivisor}
-use Rattle.formula_tree.specs.RationalForms.{formed, is_constant, constant_form}
+use Rattle.resolved_formulas.specs.Causes.{HasNoTree, MentionsBound, IsBound, IsUnbound, NamesFormulaAsTerm, IsCongruence, CongruenceInFields, HasBadModulus, IsBadModulus, IsNoDivisor}
+use Rattle.resolved_formulas.specs.RationalForms.{formed, is_constant, constant_form}
 use Rattle.exact_numbers.specs.Frac.{whole_frac}
-use Rattle.formula_tree.specs.Somewhere.{Somewhere, SomewhereIn}
-use Rattle.formula_tree.proofs.RuleLaw.{ok_same}
+use Rattle.resolved_formulas.specs.Somewhere.{Somewhere, SomewhereIn}
+use Rattle.resolved_formulas.proofs.RuleLaw.{ok_same}
 use Rattle.smt_meaning.specs.Atoms.{IsOfTheory}
 use Rattle.smt_meaning.specs.Proper.{IsPositive}
 

@@ -3,9 +3,9 @@ use Rattle.std.specs.Prelude.{◌≡◌, ℕ, List, [], true, Option, Some, None
 use Rattle.formula_meaning.specs.Context.{Context}
 use Rattle.formula_meaning.specs.Tree.{Tree}
 use Rattle.qe_syntax.specs.Trees.{FormulaTree}
-use Rattle.formula_tree.specs.Accepted.{IsAccepted}
+use Rattle.resolved_formulas.specs.Accepted.{IsAccepted}
 use Rattle.formula_tree.specs.Makers.{IsMade}
-use Rattle.formula_tree.specs.Resolving.{formula_variables, resolve}
+use Rattle.resolved_formulas.specs.Resolving.{formula_variables, resolve}
 use Rattle.formula_resolving.specs.declared.error.StaticError.{StaticError}
 use Rattle.formula_resolving.specs.declared.error.StaticError.TheVariants as static
 use Rattle.smt_syntax.specs.Trees.{ExpressionTree}

@@ -4,7 +4,7 @@ use Rattle.std.specs.List.{list_any}
 use Rattle.formula_meaning.specs.Context.{Context}
 use Rattle.formula_meaning.specs.Some.{EachOf}
 use Rattle.qe_syntax.specs.Value.{same_name}
-use Rattle.formula_tree.specs.Causes.{IsTooDeep}
+use Rattle.resolved_formulas.specs.Causes.{IsTooDeep}
 use Rattle.formula_resolving.specs.declared.error.StaticError.{StaticError}
 use Rattle.formula_resolving.specs.declared.error.StaticError.TheVariants as static
 use Rattle.redlog_printer.specs.Writing.{text_limit}

@@ -12,7 +12,7 @@ use Rattle.sample_reference.specs.Sample.{reference_sample}
 use Rattle.sample_reference.specs.Values.{origin}
 use Rattle.qe_syntax.specs.Trees.{FormulaTree}
 use Rattle.qe_syntax.specs.Value.{NamedPoint, TrueAt}
-use Rattle.formula_tree.specs.Resolving.{formula_variables, resolve}
+use Rattle.resolved_formulas.specs.Resolving.{formula_variables, resolve}
 use Rattle.smt_meaning.specs.Levels.{levels, closed}
 use Rattle.smt_meaning.specs.Shapes.{joined_of}
 use Rattle.smt_runs.specs.State.{State}

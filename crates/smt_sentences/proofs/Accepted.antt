@@ -4,11 +4,12 @@ use Rattle.std.specs.List.{AllByRecursion}
 use Rattle.formula_meaning.specs.Context.{Context, Fields, Integers}
 use Rattle.formula_meaning.specs.declared.quantifier.Quantifier.TheVariants.{Exists}
 use Rattle.qe_syntax.specs.Trees.{WrittenAtom, FormulaTree, formulas_of}
-use Rattle.formula_tree.specs.Accepted.{IsAccepted}
-use Rattle.formula_tree.specs.Causes.{HasNoTree, IsBound, MentionsBound, IsUnbound, NamesFormulaAsTerm, SomeTerm, HasNonlinear, HasForbidden, HasPast, IsCongruence, HasBadModulus, PassesInReading, IsNonlinear, Divides, CongruenceInFields, IsBadModulus, IsTooDeep, height_in_place}
-use Rattle.formula_tree.specs.NamesAfter.{names_after}
-use Rattle.formula_tree.specs.Resolving.{formula_variables, place}
-use Rattle.formula_tree.specs.Somewhere.{Somewhere, SomewhereIn}
+use Rattle.resolved_formulas.specs.Accepted.{IsAccepted}
+use Rattle.resolved_formulas.specs.Causes.{HasNoTree, IsBound, MentionsBound, IsUnbound, NamesFormulaAsTerm, SomeTerm, HasNonlinear, HasForbidden, HasPast, IsCongruence, HasBadModulus, PassesInReading, IsNonlinear, Divides, CongruenceInFields, IsBadModulus, IsTooDeep, height_in_place}
+use Rattle.resolved_formulas.specs.NamesAfter.{names_after}
+use Rattle.resolved_formulas.specs.Resolving.{formula_variables}
+use Rattle.formula_tree.specs.Names.{place}
+use Rattle.resolved_formulas.specs.Somewhere.{Somewhere, SomewhereIn}
 use Rattle.smt_meaning.specs.Levels.{level, levels, closed}
 use Rattle.smt_meaning.specs.LevelsBelow.{AreLevelsBelow}
 use Rattle.smt_meaning.proofs.Levels.{all_weaker, same_names_after}

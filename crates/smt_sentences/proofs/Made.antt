@@ -1,7 +1,7 @@
 -- What the sentence of a state is resolved to.
 use Rattle.std.proofs.Common.{◌≡◌, [], length, ap, ◌∙◌, arith}
 use Rattle.formula_meaning.specs.Context.{Context}
-use Rattle.formula_tree.proofs.ResolvedHeight.{resolving_keeps_height}
+use Rattle.resolved_formulas.proofs.ResolvedHeight.{resolving_keeps_height}
 use Rattle.sentence_theory.specs.Leading.{under_names}
 use Rattle.smt_meaning.specs.Levels.{levels}
 use Rattle.smt_runs.specs.State.{State}

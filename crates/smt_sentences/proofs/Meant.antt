@@ -14,9 +14,10 @@ use Rattle.atom_normal.specs.NormalForm.{IsNormal}
 use Rattle.qe_syntax.specs.Trees.{FormulaTree, formulas_of}
 use Rattle.qe_syntax.specs.Value.{NamedPoint, same_name}
 use Rattle.qe_syntax.specs.Value as written
-use Rattle.formula_tree.specs.Accepted.{IsAccepted}
-use Rattle.formula_tree.specs.Causes.{IsTooDeep, height_in_place, most_height}
-use Rattle.formula_tree.specs.Resolving.{place, formula_variables, resolve, at_names}
+use Rattle.resolved_formulas.specs.Accepted.{IsAccepted}
+use Rattle.resolved_formulas.specs.Causes.{IsTooDeep, height_in_place, most_height}
+use Rattle.resolved_formulas.specs.Resolving.{formula_variables, resolve, at_names}
+use Rattle.formula_tree.specs.Names.{place}
 use Rattle.sample_reference.specs.Values.{with_values, IsValue, origin}
 use Rattle.sample_reference.proofs.Chain.{origin_of}
 use Rattle.sample_reference.proofs.SamePoints.{values_of_theory}

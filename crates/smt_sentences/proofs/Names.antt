@@ -8,7 +8,7 @@ use Rattle.formula_meaning.specs.declared.quantifier.Quantifier.TheVariants.{Exi
 use Rattle.qe_syntax.specs.FreeNames.{IsFree}
 use Rattle.qe_syntax.specs.Trees.{FormulaTree, formulas_of}
 use Rattle.qe_syntax.specs.Value.{Mentions}
-use Rattle.formula_tree.specs.Resolving.{formula_variables, all_variables}
+use Rattle.resolved_formulas.specs.Resolving.{formula_variables, all_variables}
 use Rattle.smt_meaning.specs.Levels.{level, closed}
 use Rattle.smt_meaning.specs.LevelsBelow.{IsLevelBelow, AreLevelsBelow}
 use Rattle.smt_meaning.proofs.Levels.{all_append, all_first, all_second, all_weaker, more_levels}

@@ -15,7 +15,7 @@ use Rattle.formula_meaning.proofs.Iff.{both_ways}
 use Rattle.formula_meaning.proofs.TreeFiner.{tree_finer}
 use Rattle.formula_meaning.proofs.Values.{pos_mul}
 use Rattle.qe_syntax.specs.Value.{NamedPoint}
-use Rattle.formula_tree.specs.Resolving.{at_names}
+use Rattle.resolved_formulas.specs.Resolving.{at_names}
 use Rattle.sample_reference.specs.Values.{with_value, with_values, IsValue, origin}
 use Rattle.sample_reference.proofs.SamePoints.{abs_positive}
 use Rattle.smt_meaning.specs.Levels.{level, levels, levels_from}

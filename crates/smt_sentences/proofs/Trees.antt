@@ -14,12 +14,13 @@ use Rattle.qe_syntax.specs.FreeNames.{IsFree}
 use Rattle.qe_syntax.specs.Trees.{FormulaTree, FormulaTrees, WrittenAtom, Compare, Cong, Ncong, Bound, formulas_of}
 use Rattle.qe_syntax.specs.Value.{NamedPoint, Mentions, same_name}
 use Rattle.qe_syntax.specs.Value as written
-use Rattle.formula_tree.specs.Accepted.{IsAccepted}
-use Rattle.formula_tree.specs.NamesAfter.{names_after}
-use Rattle.formula_tree.specs.Resolving.{formula_variables, place, resolve, resolved_atom, at_names, bound_truth, IsFreeInPlace, MentionsNumber}
+use Rattle.resolved_formulas.specs.Accepted.{IsAccepted}
+use Rattle.resolved_formulas.specs.NamesAfter.{names_after}
+use Rattle.resolved_formulas.specs.Resolving.{formula_variables, resolve, resolved_atom, at_names, bound_truth, IsFreeInPlace, MentionsNumber}
+use Rattle.formula_tree.specs.Names.{place}
 use Rattle.formula_tree.specs.Trees.{members}
-use Rattle.formula_tree.proofs.ResolvedNames.{resolving_brings_no_name}
-use Rattle.formula_tree.proofs.ResolvedTruth.{resolving_keeps_truth, resolving_is_normal}
+use Rattle.resolved_formulas.proofs.ResolvedNames.{resolving_brings_no_name}
+use Rattle.resolved_formulas.proofs.ResolvedTruth.{resolving_keeps_truth, resolving_is_normal}
 use Rattle.sentence_theory.specs.Leading.{under_names}
 use Rattle.smt_meaning.specs.Levels.{level, levels, levels_from, closed}
 use Rattle.smt_meaning.specs.LevelsBelow.{AreLevelsBelow}

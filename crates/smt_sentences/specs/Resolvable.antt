@@ -4,8 +4,8 @@ use Rattle.formula_meaning.specs.Context.{Context}
 use Rattle.formula_meaning.specs.Every.{Every}
 use Rattle.qe_syntax.specs.FreeNames.{IsFree}
 use Rattle.qe_syntax.specs.Trees.{FormulaTree}
-use Rattle.formula_tree.specs.Accepted.{IsAccepted}
-use Rattle.formula_tree.specs.Resolving.{formula_variables}
+use Rattle.resolved_formulas.specs.Accepted.{IsAccepted}
+use Rattle.resolved_formulas.specs.Resolving.{formula_variables}
 use Rattle.smt_meaning.specs.Atoms.{IsOfTheory}
 use Rattle.smt_meaning.specs.Levels.{levels}
 use Rattle.smt_meaning.specs.LevelsBelow.{IsLevelBelow, AreLevelsBelow}

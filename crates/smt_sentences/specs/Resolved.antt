@@ -11,8 +11,8 @@ use Rattle.formula_meaning.specs.Tree.{Tree, TrueAt, IsFree}
 use Rattle.atom_normal.specs.NormalForm.{IsNormal}
 use Rattle.sample_reference.specs.Values.{origin}
 use Rattle.qe_syntax.specs.Trees.{FormulaTree}
-use Rattle.formula_tree.specs.Causes.{height_in_place, IsTooDeep}
-use Rattle.formula_tree.specs.Resolving.{formula_variables, resolve}
+use Rattle.resolved_formulas.specs.Causes.{height_in_place, IsTooDeep}
+use Rattle.resolved_formulas.specs.Resolving.{formula_variables, resolve}
 use Rattle.formula_tree.specs.Trees.{members}
 use Rattle.smt_meaning.specs.Levels.{levels}
 use Rattle.smt_meaning.specs.LevelsBelow.{AreLevelsBelow}

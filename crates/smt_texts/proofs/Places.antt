@@ -5,7 +5,7 @@ use Rattle.std.proofs.lemmas.Bool.{ltb-true}
 use Rattle.exact_numbers.specs.declared.fraction.Fraction.{Fraction}
 use Rattle.exact_numbers.specs.Fraction.{frac_of}
 use Rattle.qe_syntax.specs.Value.{same_name}
-use Rattle.formula_tree.specs.Resolving.{place}
+use Rattle.formula_tree.specs.Names.{place}
 use Rattle.smt_runs.specs.Texts.{value_among}
 use Rattle.smt_texts.specs.Pairs.{IsDeclared}
 

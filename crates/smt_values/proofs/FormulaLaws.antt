@@ -14,7 +14,8 @@ use Rattle.qe_syntax.specs.declared.tree.Literal.{Literal}
 use Rattle.qe_syntax.specs.declared.tree.Literal.TheVariants.{Fits}
 use Rattle.qe_syntax.specs.declared.tree.Relation.{Relation}
 use Rattle.qe_syntax.specs.Trees.{TermTree, Number, FormulaTree, Compare}
-use Rattle.formula_tree.specs.Resolving.{place, variables_of, formula_variables}
+use Rattle.resolved_formulas.specs.Resolving.{variables_of, formula_variables}
+use Rattle.formula_tree.specs.Names.{place}
 use Rattle.written_atoms.specs.Term.{IsTermRead, IsDifferenceRead}
 use Rattle.written_atoms.specs.Read.{IsRead, congruence_tree}
 use Rattle.written_atoms.specs.declared.read.ReadAtom.{ReadAtom}

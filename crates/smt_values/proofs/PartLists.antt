@@ -9,7 +9,7 @@ use Rattle.formula_meaning.specs.declared.junction.Junction.{Junction}
 use Rattle.formula_meaning.specs.declared.junction.Junction.TheVariants.{Conjunction, Disjunction}
 use Rattle.qe_syntax.specs.Trees.{FormulaTree, formulas_of}
 use Rattle.formula_tree.specs.Makers.{Keeps}
-use Rattle.formula_tree.specs.Resolving.{formula_variables, all_variables}
+use Rattle.resolved_formulas.specs.Resolving.{formula_variables, all_variables}
 use Rattle.formula_resolving.specs.declared.parts.Part.{Part}
 use Rattle.formula_resolving.specs.declared.parts.Members.{Members}
 use Rattle.formula_resolving.specs.MetCauses.{flag, either, no_causes}

@@ -5,7 +5,8 @@ use Rattle.formula_meaning.specs.Context.{Context}
 use Rattle.qe_syntax.specs.declared.tree.Literal.{Literal}
 use Rattle.qe_syntax.specs.declared.tree.Literal.TheVariants.{Fits}
 use Rattle.qe_syntax.specs.Trees.{TermTree, Number, Named, Sum, Product, Quotient, Negative, terms_of}
-use Rattle.formula_tree.specs.Resolving.{place, variables_of, variables_in}
+use Rattle.resolved_formulas.specs.Resolving.{variables_of, variables_in}
+use Rattle.formula_tree.specs.Names.{place}
 use Rattle.written_atoms.specs.Term.{IsTermRead, IsOpposite, IsOver, IsTimes, IsNoSum, IsSumPlus, IsWholeSum}
 use Rattle.written_atoms.specs.declared.term.ReadTerm.{ReadTerm}
 use Rattle.written_atoms.specs.declared.term.ReadSum.{ReadSum}

@@ -6,7 +6,8 @@ use Rattle.formula_meaning.specs.Context.{Context}
 use Rattle.formula_meaning.specs.Formula.{Impl}
 use Rattle.formula_meaning.specs.Tree.{Tree}
 use Rattle.qe_syntax.specs.Trees.{TermTree, FormulaTree, formulas_of}
-use Rattle.formula_tree.specs.Resolving.{place, variables_of, formula_variables}
+use Rattle.resolved_formulas.specs.Resolving.{variables_of, formula_variables}
+use Rattle.formula_tree.specs.Names.{place}
 use Rattle.written_atoms.specs.Term.{IsTermRead}
 use Rattle.written_atoms.specs.declared.term.ReadTerm.{ReadTerm}
 use Rattle.formula_resolving.specs.Parts.{IsPart}

@@ -5,8 +5,8 @@ use Rattle.std.specs.List.{list_any}
 use Rattle.formula_meaning.specs.Context.{Context}
 use Rattle.qe_syntax.specs.Trees.{FormulaTree}
 use Rattle.qe_syntax.specs.Value.{same_name}
-use Rattle.formula_tree.specs.Accepted.{IsAccepted as HasNoCause}
-use Rattle.formula_tree.specs.Causes.{IsTooDeep}
+use Rattle.resolved_formulas.specs.Accepted.{IsAccepted as HasNoCause}
+use Rattle.resolved_formulas.specs.Causes.{IsTooDeep}
 use Rattle.formula_resolving.specs.Refusals.{Applies}
 use Rattle.formula_resolving.specs.declared.error.StaticError.{StaticError}
 use Rattle.formula_resolving.specs.declared.error.StaticError.TheVariants as static

@@ -6,7 +6,7 @@ use Rattle.formula_meaning.specs.Tree.{Tree, IsFree}
 use Rattle.atom_normal.specs.declared.atoms.Context.{Context as Theory}
 use Rattle.atom_normal.specs.Atoms.{context_of}
 use Rattle.atom_normal.specs.NormalForm.{IsNormal}
-use Rattle.formula_tree.specs.Causes.{height_in_place, IsTooDeep, most_height}
+use Rattle.resolved_formulas.specs.Causes.{height_in_place, IsTooDeep, most_height}
 use Rattle.formula_tree.specs.declared.shape.Shape.{Shape}
 use Rattle.formula_tree.specs.Makers.{IsMade, Keeps}
 use Rattle.formula_store.specs.declared.id.FormulaId.{FormulaId}

@@ -6,7 +6,7 @@ use Rattle.formula_meaning.specs.Tree.{Tree}
 use Rattle.qe_syntax.specs.Trees.{FormulaTree}
 use Rattle.formula_tree.specs.declared.shape.Shape.{Shape}
 use Rattle.formula_tree.specs.Makers.{Keeps}
-use Rattle.formula_tree.specs.Resolving.{formula_variables}
+use Rattle.resolved_formulas.specs.Resolving.{formula_variables}
 use Rattle.formula_store.specs.declared.id.FormulaId.{FormulaId}
 use Rattle.formula_store.specs.Nodes.{tree, IsId}
 use Rattle.smt_meaning.specs.LevelsBelow.{AreLevelsBelow}

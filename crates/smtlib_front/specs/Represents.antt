@@ -6,7 +6,7 @@ use Rattle.atom_normal.specs.Atoms.{context_of}
 use Rattle.qe_syntax.specs.Trees.{FormulaTree}
 use Rattle.formula_tree.specs.declared.shape.Shape.{Shape}
 use Rattle.formula_tree.specs.Makers.{IsMade}
-use Rattle.formula_tree.specs.Resolving.{formula_variables, resolve}
+use Rattle.resolved_formulas.specs.Resolving.{formula_variables, resolve}
 use Rattle.formula_store.specs.declared.id.FormulaId.{FormulaId}
 use Rattle.formula_store.specs.Nodes.{tree, IsId}
 use Rattle.smt_meaning.specs.Levels.{levels}

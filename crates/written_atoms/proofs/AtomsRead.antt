@@ -24,10 +24,10 @@ use Rattle.qe_syntax.specs.Trees.{TermTree, TermTrees, Number, Named, Sum, Produ
 use Rattle.qe_syntax.specs.declared.tree.Relation.{Relation}
 use Rattle.atom_normal.specs.declared.atoms.Normal.{Normal}
 use Rattle.atom_normal.specs.Atoms.{tree_of, IsWellFormedNormal}
-use Rattle.formula_tree.specs.FractionRule.{added, multiplied, ◌>>=◌}
-use Rattle.formula_tree.specs.RationalForms.{RationalForm, Missing, Overflow, constant_form, literal_form, forms, formed, formed_difference, sum_of_forms, product_of_forms, quotient_of_forms, power_of_form, opposite_form}
-use Rattle.formula_tree.specs.Resolving.{BoundTrees, compared, congruent}
-use Rattle.formula_tree.specs.Causes.{HasPast, HavePast, IsMissing}
+use Rattle.resolved_formulas.specs.FractionRule.{added, multiplied, ◌>>=◌}
+use Rattle.resolved_formulas.specs.RationalForms.{RationalForm, Missing, Overflow, constant_form, literal_form, forms, formed, formed_difference, sum_of_forms, product_of_forms, quotient_of_forms, power_of_form, opposite_form}
+use Rattle.resolved_formulas.specs.Resolving.{BoundTrees, compared, congruent}
+use Rattle.resolved_formulas.specs.Causes.{HasPast, HavePast, IsMissing}
 use Rattle.written_atoms.specs.declared.rational.Rational.{Rational}
 use Rattle.written_atoms.specs.declared.term.ReadTerm.{ReadTerm}
 use Rattle.written_atoms.specs.declared.read.AtomCauses.{AtomCauses}

@@ -11,9 +11,9 @@ use Rattle.formula_meaning.specs.Sorted.{IsRising}
 use Rattle.formula_meaning.proofs.Sorted.{here, elsewhere, multiple_above}
 use Rattle.linear_forms.specs.Terms.{AllInLimit}
 use Rattle.linear_forms.proofs.Search.{multiple_within}
-use Rattle.formula_tree.specs.FractionRule.{◌>>=◌}
+use Rattle.resolved_formulas.specs.FractionRule.{◌>>=◌}
 use Rattle.formula_meaning.specs.Limits.{is_within}
-use Rattle.formula_tree.specs.RationalForms.{Overflow, numbers_of, formed_number, formed_form}
+use Rattle.resolved_formulas.specs.RationalForms.{Overflow, numbers_of, formed_number, formed_form}
 
 -- what two calculations one after the other give
 pub then_ok : {A B E : Type 0} (r : Result A E) (x : A) (f : A → Result B E) → r ≡ Ok x → (r >>= f) ≡ f x

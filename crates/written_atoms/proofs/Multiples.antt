@@ -14,8 +14,8 @@ use Rattle.formula_meaning.specs.Combining.{AddWithin}
 use Rattle.linear_forms.specs.Reduction.{quotient, quotients}
 use Rattle.linear_forms.proofs.Division.{quotient_within}
 use Rattle.linear_forms.proofs.Reduced.{quotient_is}
-use Rattle.formula_tree.specs.RationalForms.{RationalForm, numbers_of, lowest_form}
-use Rattle.formula_tree.specs.LowestForms.{IsLowestForm}
+use Rattle.resolved_formulas.specs.RationalForms.{RationalForm, numbers_of, lowest_form}
+use Rattle.resolved_formulas.specs.LowestForms.{IsLowestForm}
 
 pub not_zero : (k : ℤ) → pos 0 <ℤ k → ¬ (k ≡ pos 0)
 not_zero k p e = omega (arith, ints)

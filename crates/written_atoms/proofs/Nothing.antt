@@ -20,10 +20,10 @@ use Rattle.linear_forms.proofs.Reduced.{quotient_is}
 use Rattle.linear_forms.proofs.Quotients.{one_quotient}
 use Rattle.qe_syntax.specs.declared.tree.Literal.TheVariants.{Fits}
 use Rattle.qe_syntax.specs.Trees.{TermTree, Number}
-use Rattle.formula_tree.specs.FractionRule.{◌>>=◌}
-use Rattle.formula_tree.specs.RationalForms.{RationalForm, Missing, constant_form, formed, formed_difference, sum_of_forms, opposite_form}
-use Rattle.formula_tree.specs.LowestForms.{IsLowestForm}
-use Rattle.formula_tree.proofs.LowestForms.{form_is_lowest}
+use Rattle.resolved_formulas.specs.FractionRule.{◌>>=◌}
+use Rattle.resolved_formulas.specs.RationalForms.{RationalForm, Missing, constant_form, formed, formed_difference, sum_of_forms, opposite_form}
+use Rattle.resolved_formulas.specs.LowestForms.{IsLowestForm}
+use Rattle.resolved_formulas.proofs.LowestForms.{form_is_lowest}
 use Rattle.written_atoms.specs.declared.rational.Rational.{Rational}
 use Rattle.written_atoms.specs.declared.term.ReadTerm.{ReadTerm}
 use Rattle.written_atoms.specs.Rational.{rational_of, there, Shows}

@@ -10,9 +10,9 @@ use Rattle.formula_meaning.specs.Context.{Context, Fields, Integers}
 use Rattle.qe_syntax.specs.declared.tree.Literal.{Literal}
 use Rattle.qe_syntax.specs.declared.tree.Literal.TheVariants.{Fits, Past}
 use Rattle.qe_syntax.specs.Trees.{TermTree, TermTrees, Sum, Product, Quotient, Power, Negative, none, also}
-use Rattle.formula_tree.specs.FractionRule.{added, multiplied, ◌>>=◌}
-use Rattle.formula_tree.specs.RationalForms.{RationalForm, Missing, is_constant, constant_form, formed, forms, sum_of_forms, product_of_forms, quotient_of_forms, power_of_form, opposite_form}
-use Rattle.formula_tree.specs.Causes.{IsVarying, IsNoDivisor, IsAboveOne, IsForbidden, MultipliesNames, HaveNonlinear, HaveForbidden, IsMissing}
+use Rattle.resolved_formulas.specs.FractionRule.{added, multiplied, ◌>>=◌}
+use Rattle.resolved_formulas.specs.RationalForms.{RationalForm, Missing, is_constant, constant_form, formed, forms, sum_of_forms, product_of_forms, quotient_of_forms, power_of_form, opposite_form}
+use Rattle.resolved_formulas.specs.Causes.{IsVarying, IsNoDivisor, IsAboveOne, IsForbidden, MultipliesNames, HaveNonlinear, HaveForbidden, IsMissing}
 use Rattle.written_atoms.specs.declared.rational.Rational.{Rational}
 use Rattle.written_atoms.specs.declared.term.ReadTerm.{ReadTerm}
 use Rattle.written_atoms.specs.declared.term.ReadSum.{ReadSum}

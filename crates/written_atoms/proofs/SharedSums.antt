@@ -23,11 +23,11 @@ use Rattle.linear_forms.specs.Reduction.{quotient}
 use Rattle.linear_forms.specs.Combinations.{IsLinear, IsCombination}
 use Rattle.linear_forms.proofs.Quotients.{multiple_quotients, sorted_quotient}
 use Rattle.linear_forms.proofs.Search.{multiple_within}
-use Rattle.formula_tree.specs.FractionRule.{◌>>=◌}
-use Rattle.formula_tree.specs.RationalForms.{RationalForm, Missing, numbers_of, lowest_form, sum_of_forms}
-use Rattle.formula_tree.specs.LowestForms.{IsLowestForm}
-use Rattle.formula_tree.proofs.FormSteps.{content_not_zero}
-use Rattle.formula_tree.proofs.LowestForms.{lowest_lowest, sum_lowest}
+use Rattle.resolved_formulas.specs.FractionRule.{◌>>=◌}
+use Rattle.resolved_formulas.specs.RationalForms.{RationalForm, Missing, numbers_of, lowest_form, sum_of_forms}
+use Rattle.resolved_formulas.specs.LowestForms.{IsLowestForm}
+use Rattle.resolved_formulas.proofs.FormSteps.{content_not_zero}
+use Rattle.resolved_formulas.proofs.LowestForms.{lowest_lowest, sum_lowest}
 use Rattle.written_atoms.specs.declared.rational.Rational.{Rational}
 use Rattle.written_atoms.specs.declared.sum.WholeSum.{WholeSum}
 use Rattle.written_atoms.specs.declared.sum.SharedSum.{SharedSum}

@@ -16,8 +16,8 @@ use Rattle.formula_meaning.specs.Form.{Form, Term}
 use Rattle.linear_forms.specs.Reduction.{quotient}
 use Rattle.linear_forms.proofs.Quotients.{quotient_minus_one}
 use Rattle.qe_syntax.specs.declared.tree.Literal.TheVariants.{Fits, Past}
-use Rattle.formula_tree.specs.RationalForms.{RationalForm, Missing, Overflow, Nonlinear, Division, numbers_of, is_empty, is_constant, constant_form, constant_of, multiple_of_form, product_of_forms, quotient_of_forms, small_power, as_constant, power_of_form, opposite_form}
-use Rattle.formula_tree.specs.LowestForms.{IsLowestForm}
+use Rattle.resolved_formulas.specs.RationalForms.{RationalForm, Missing, Overflow, Nonlinear, Division, numbers_of, is_empty, is_constant, constant_form, constant_of, multiple_of_form, product_of_forms, quotient_of_forms, small_power, as_constant, power_of_form, opposite_form}
+use Rattle.resolved_formulas.specs.LowestForms.{IsLowestForm}
 use Rattle.written_atoms.specs.Rational.{there, is_divisor}
 
 -- ---- products

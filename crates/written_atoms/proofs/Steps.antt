@@ -21,9 +21,9 @@ use Rattle.formula_meaning.proofs.Gathered.{gathered_is, gathered_sorted, coeffi
 use Rattle.linear_forms.specs.Combinations.{IsCombination}
 use Rattle.linear_forms.specs.Reduction.{quotient}
 use Rattle.linear_forms.proofs.Quotients.{quotient_one, one_quotient}
-use Rattle.formula_tree.specs.FractionRule.{◌>>=◌}
-use Rattle.formula_tree.specs.RationalForms.{RationalForm, Missing, Overflow, numbers_of, formed_number, formed_form, lowest_form, sum_of_forms, multiple_of_form}
-use Rattle.formula_tree.proofs.FormSteps.{content_not_zero}
+use Rattle.resolved_formulas.specs.FractionRule.{◌>>=◌}
+use Rattle.resolved_formulas.specs.RationalForms.{RationalForm, Missing, Overflow, numbers_of, formed_number, formed_form, lowest_form, sum_of_forms, multiple_of_form}
+use Rattle.resolved_formulas.proofs.FormSteps.{content_not_zero}
 use Rattle.written_atoms.specs.Rational.{there}
 use Rattle.written_atoms.proofs.Formed.{then_ok, then_err, number_within, number_past, IsFormWithin, form_within, form_cases, constant_past, coefficient_past, coefficient_within, by_coefficients}
 

@@ -6,9 +6,9 @@ use Rattle.atom_normal.specs.Atoms.{tree_of, IsWellFormedNormal}
 use Rattle.atom_normal.specs.NormalForm.{ConstantPasses}
 use Rattle.atom_normal.specs.declared.atoms.Normal.{Normal}
 use Rattle.qe_syntax.specs.declared.tree.Relation.{Relation}
-use Rattle.formula_tree.specs.RationalForms.{RationalForm, Missing}
-use Rattle.formula_tree.specs.Resolving.{compared, congruent}
-use Rattle.formula_tree.specs.Causes.{IsMissing}
+use Rattle.resolved_formulas.specs.RationalForms.{RationalForm, Missing}
+use Rattle.resolved_formulas.specs.Resolving.{compared, congruent}
+use Rattle.resolved_formulas.specs.Causes.{IsMissing}
 use Rattle.written_atoms.specs.declared.rational.Rational.{Rational}
 use Rattle.written_atoms.specs.Rational.{Shows}
 use Rattle.written_atoms.specs.Term.{is_no_divisor}

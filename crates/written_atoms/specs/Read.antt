@@ -3,8 +3,8 @@ use Rattle.std.specs.Prelude.{◌≡◌, ◌⊎◌, ◌↔◌, ℕ, List, Bool, 
 use Rattle.formula_meaning.specs.Context.{Context, Fields}
 use Rattle.atom_normal.specs.Atoms.{tree_of, IsWellFormedNormal}
 use Rattle.qe_syntax.specs.Trees.{TermTree, WrittenAtom, Cong, Ncong}
-use Rattle.formula_tree.specs.Resolving.{BoundTrees, resolved_atom}
-use Rattle.formula_tree.specs.Causes.{SomeTerm, HasNonlinear, HasForbidden, HasBadModulus, HasPast, PassesInReading, IsCongruence}
+use Rattle.resolved_formulas.specs.Resolving.{BoundTrees, resolved_atom}
+use Rattle.resolved_formulas.specs.Causes.{SomeTerm, HasNonlinear, HasForbidden, HasBadModulus, HasPast, PassesInReading, IsCongruence}
 use Rattle.written_atoms.specs.declared.read.AtomCauses.{AtomCauses}
 use Rattle.written_atoms.specs.declared.read.ReadAtom.{ReadAtom}
 

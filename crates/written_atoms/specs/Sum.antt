@@ -3,10 +3,10 @@ use Rattle.std.specs.Prelude.{◌≡◌, ℕ, ℤ, pos, ◌+ℤ◌, ◌*ℤ◌, 
 use Rattle.formula_meaning.specs.Combining.{AddWithin}
 use Rattle.formula_meaning.specs.Form.{Form, coefficient}
 use Rattle.formula_meaning.specs.Sorted.{IsSorted}
-use Rattle.formula_tree.specs.RationalForms.{RationalForm, sum_of_forms}
-use Rattle.formula_tree.specs.LowestForms.{IsLowestForm}
-use Rattle.formula_tree.specs.RationalForms as rule
-use Rattle.formula_tree.specs.FractionRule.{◌>>=◌}
+use Rattle.resolved_formulas.specs.RationalForms.{RationalForm, sum_of_forms}
+use Rattle.resolved_formulas.specs.LowestForms.{IsLowestForm}
+use Rattle.resolved_formulas.specs.RationalForms as rule
+use Rattle.resolved_formulas.specs.FractionRule.{◌>>=◌}
 use Rattle.written_atoms.specs.declared.rational.Rational.{Rational}
 use Rattle.written_atoms.specs.declared.sum.WholeSum.{WholeSum}
 use Rattle.written_atoms.specs.declared.sum.SharedSum.{SharedSum}

@@ -5,8 +5,8 @@ use Rattle.formula_meaning.specs.Context.{Context, Fields, Integers}
 use Rattle.qe_syntax.specs.declared.tree.Literal.{Literal}
 use Rattle.qe_syntax.specs.declared.tree.Literal.TheVariants.{Fits, Past}
 use Rattle.qe_syntax.specs.Trees.{TermTree}
-use Rattle.formula_tree.specs.RationalForms.{RationalForm, Missing, is_constant, constant_form, formed, formed_difference, sum_of_forms, product_of_forms, quotient_of_forms, power_of_form, opposite_form}
-use Rattle.formula_tree.specs.Causes.{HasNonlinear, HasForbidden}
+use Rattle.resolved_formulas.specs.RationalForms.{RationalForm, Missing, is_constant, constant_form, formed, formed_difference, sum_of_forms, product_of_forms, quotient_of_forms, power_of_form, opposite_form}
+use Rattle.resolved_formulas.specs.Causes.{HasNonlinear, HasForbidden}
 use Rattle.written_atoms.specs.Rational.{rational_of, there, is_divisor, Shows}
 use Rattle.written_atoms.specs.declared.rational.Rational.{Rational}
 use Rattle.exact_numbers.specs.Frac.{whole_frac}

@@ -27,8 +27,8 @@ impl Rational {
     ghost use Rattle.linear_forms.specs.Combinations.{IsLinear};
     ghost use Rattle.qe_syntax.specs.Proper.{IsNumeral};
     ghost use Rattle.atom_normal.specs.Atoms.{context_of};
-    ghost use Rattle.formula_tree.specs.RationalForms.{numbers_of, is_constant, constant_form, constant_of, variable_form, lowest_form, sum_of_forms, multiple_of_form, product_of_forms, quotient_of_forms, power_of_form, opposite_form};
-    ghost use Rattle.formula_tree.specs.LowestForms.{IsLowestForm};
+    ghost use Rattle.resolved_formulas.specs.RationalForms.{numbers_of, is_constant, constant_form, constant_of, variable_form, lowest_form, sum_of_forms, multiple_of_form, product_of_forms, quotient_of_forms, power_of_form, opposite_form};
+    ghost use Rattle.resolved_formulas.specs.LowestForms.{IsLowestForm};
     ghost use Rattle.written_atoms.specs.Rational.{rational_of, there, is_divisor};
 
     /// The fraction as a form.

@@ -175,8 +175,8 @@ impl SharedSum {
     ghost use Rattle.std.specs.Prelude.{Some, IfOk, MatchBool};
     ghost use Rattle.exact_numbers.specs.Divides.{Divides};
     ghost use Rattle.linear_forms.specs.Combinations.{IsLinear};
-    ghost use Rattle.formula_tree.specs.RationalForms.{RationalForm};
-    ghost use Rattle.formula_tree.specs.LowestForms.{IsLowestForm};
+    ghost use Rattle.resolved_formulas.specs.RationalForms.{RationalForm};
+    ghost use Rattle.resolved_formulas.specs.LowestForms.{IsLowestForm};
     ghost use Rattle.written_atoms.specs.Rational.{rational_of};
     ghost use Rattle.written_atoms.specs.Sum.{IsMultipleOf, StaysMultiple, IsSummed};
     ghost use Rattle.written_atoms.specs.declared.sum.RunningSum.TheVariants.{Known};
@@ -261,7 +261,7 @@ pub(crate) enum RunningSum {
 impl RunningSum {
     ghost use Rattle.std.specs.Prelude.{Result, Ok, IfOk};
     ghost use Rattle.exact_numbers.specs.Frac.{whole_frac};
-    ghost use Rattle.formula_tree.specs.RationalForms.{RationalForm, Missing, constant_form};
+    ghost use Rattle.resolved_formulas.specs.RationalForms.{RationalForm, Missing, constant_form};
     ghost use Rattle.written_atoms.specs.Rational.{Shows};
     ghost use Rattle.written_atoms.specs.Sum.{ShowsSum, IsSummed};
 

@@ -9,8 +9,8 @@ ghost use Rattle.atom_normal.specs.Atoms.{context_of};
 ghost use Rattle.qe_syntax.specs.Proper.{IsNumeral, IsProperTerm, AreProperTerms};
 ghost use Rattle.qe_syntax.specs.Trees.{TermTree, terms_of, Number, Named, Sum, Product};
 ghost use Rattle.qe_syntax.specs.CodeTrees.{term_tree};
-ghost use Rattle.formula_tree.specs.LowestForms.{IsLowestForm};
-ghost use Rattle.formula_tree.specs.Resolving.{place};
+ghost use Rattle.resolved_formulas.specs.LowestForms.{IsLowestForm};
+ghost use Rattle.formula_tree.specs.Names.{place};
 ghost use Rattle.written_atoms.specs.Rational.{rational_of};
 ghost use Rattle.written_atoms.specs.Term.{Given, IsTermRead, IsNoSum, IsSumPlus, IsWholeSum, IsDifferenceRead, varies, is_no_divisor, is_forbidden, is_above_one, IsPlus, IsTimes, IsOver, IsPower, IsOpposite};
 

@@ -3,7 +3,7 @@ use Rattle.std.specs.List.{fold}
 use Rattle.qe_syntax.specs.Trees.{formulas_of}
 use Rattle.qe_syntax.specs.CodeTrees.{formula_tree}
 use Rattle.formula_tree.specs.Names.{with_name}
-use Rattle.formula_tree.specs.Resolving.{all_variables}
+use Rattle.resolved_formulas.specs.Resolving.{all_variables}
 use Rattle.problem_reading.proofs.FromSessionState.{AllVariables, variables_of_all, all_put_in}
 use Rattle.certificate_queries.proofs.certify.names_of.Goals as goal
 

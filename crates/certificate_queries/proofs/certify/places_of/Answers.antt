@@ -4,7 +4,7 @@ use Rattle.std.proofs.lemmas.List.{take_more, map_push}
 use Rattle.std.proofs.lemmas.Option.{slice_get-get_or, get_or_from_slice_get, slice_get_within}
 use Rattle.linear_forms.specs.declared.form.VarId.{VarId}
 use Rattle.linear_forms.specs.Values.{number_of}
-use Rattle.formula_tree.specs.Resolving.{place}
+use Rattle.formula_tree.specs.Names.{place}
 use Rattle.certificate_queries.proofs.certify.places_of.Goals as goal
 use Rattle.certificate_queries.proofs.certify.places_of.Goals.{in-Some+in_default-push, in_default}
 

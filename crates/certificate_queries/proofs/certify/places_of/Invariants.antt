@@ -1,6 +1,6 @@
 use Rattle.std.proofs.Common.{◌≡◌, map, take}
 use Rattle.linear_forms.specs.Values.{number_of}
-use Rattle.formula_tree.specs.Resolving.{place}
+use Rattle.formula_tree.specs.Names.{place}
 use Rattle.certificate_queries.proofs.certify.places_of.Given as goal
 
 -- the places so far

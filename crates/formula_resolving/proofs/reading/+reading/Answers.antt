@@ -10,7 +10,7 @@ use Rattle.qe_syntax.specs.declared.tree.Formula.{Formula}
 use Rattle.qe_syntax.proofs.TreeEquations.{formula-True, formula-False, formula-Named}
 use Rattle.qe_syntax.proofs.Quantified.{matrix_unquantified}
 use Rattle.formula_resolving.specs.BoundIds.{trees_bound}
-use Rattle.formula_tree.specs.Resolving.{BoundTrees}
+use Rattle.resolved_formulas.specs.Resolving.{BoundTrees}
 use Rattle.formula_resolving.specs.declared.parts.Opening.{Opening}
 use Rattle.formula_resolving.specs.MetCauses.{no_causes}
 use Rattle.formula_meaning.specs.Shape.{quantified}

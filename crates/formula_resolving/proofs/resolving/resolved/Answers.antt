@@ -2,7 +2,7 @@ use Rattle.std.proofs.Common.{ℕ, List, subst}
 use Rattle.atom_normal.specs.Atoms.{context_of}
 use Rattle.qe_syntax.specs.CodeTrees.{formula_tree}
 use Rattle.formula_tree.specs.Makers.{IsMade}
-use Rattle.formula_tree.specs.Resolving.{resolve}
+use Rattle.resolved_formulas.specs.Resolving.{resolve}
 use Rattle.formula_resolving.specs.BoundIds.{trees_bound}
 use Rattle.formula_resolving.specs.Parts.{AreTold}
 use Rattle.formula_resolving.proofs.FirstCause.{unmet}

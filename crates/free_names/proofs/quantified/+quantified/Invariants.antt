@@ -3,7 +3,7 @@ use Rattle.formula_meaning.specs.Sizes.{nodes, all_nodes}
 use Rattle.formula_meaning.specs.Replaced.{all_replaced}
 use Rattle.qe_syntax.specs.Trees.{formulas_of}
 use Rattle.qe_syntax.specs.CodeTrees.{formula_tree}
-use Rattle.formula_tree.specs.Causes.{atom_in_place}
+use Rattle.resolved_formulas.specs.Causes.{atom_in_place}
 use Rattle.formula_tree.specs.Quantified.{some_quantifier}
 use Rattle.formula_store.specs.Nodes.{tree}
 use Rattle.formula_resolving.specs.BoundIds.{trees_bound}

@@ -8,7 +8,8 @@ use Rattle.qe_syntax.specs.CodeTrees.{formula_tree}
 use Rattle.qe_syntax.specs.Valued.{IsUnquantified}
 use Rattle.qe_syntax.proofs.EntryLists.{rest_at}
 use Rattle.qe_syntax.proofs.Quantified.{matrix_unquantified}
-use Rattle.formula_tree.specs.Resolving.{place, MentionsNumber}
+use Rattle.resolved_formulas.specs.Resolving.{MentionsNumber}
+use Rattle.formula_tree.specs.Names.{place}
 use Rattle.formula_store.specs.Nodes.{tree}
 use Rattle.formula_resolving.specs.BoundIds.{trees_bound}
 use Rattle.formula_resolving.proofs.Measures.{formula_below, matrix_nodes}

@@ -2,7 +2,7 @@ use Rattle.std.proofs.Common.{List, ℕ, sym, ◌∙◌, subst}
 use Rattle.std.specs.Ordering.{nat_cmp}
 use Rattle.std.specs.BTreeSet.{contains}
 use Rattle.formula_meaning.specs.Tree.{IsFree}
-use Rattle.formula_tree.specs.Resolving.{place}
+use Rattle.formula_tree.specs.Names.{place}
 use Rattle.formula_store.specs.declared.id.FormulaId.{FormulaId}
 use Rattle.formula_store.specs.Nodes.{tree, IsId}
 use Rattle.formula_resolving.proofs.AtomLaws.{bound_id}

@@ -4,7 +4,7 @@ use Rattle.std.specs.Ordering.{nat_cmp}
 use Rattle.std.specs.BTreeMap.{is_at}
 use Rattle.std.specs.BTreeSet.{contains}
 use Rattle.qe_syntax.specs.CodeTrees.{formula_tree}
-use Rattle.formula_tree.specs.Resolving.{place}
+use Rattle.formula_tree.specs.Names.{place}
 use Rattle.formula_resolving.proofs.PartLaws.{ok_map}
 use Rattle.free_names.specs.Entries.{HasEntryAt}
 use Rattle.free_names.specs.Places.{IsFreeHere}

@@ -1,7 +1,7 @@
 use Rattle.std.proofs.Common.{IsTrue, ◌↔◌, ℕ, take}
 use Rattle.std.specs.Ordering.{nat_cmp}
 use Rattle.std.specs.BTreeSet.{contains}
-use Rattle.formula_tree.specs.Resolving.{place}
+use Rattle.formula_tree.specs.Names.{place}
 use Rattle.free_names.specs.Entries.{HasEntryAt}
 use Rattle.free_names.proofs.valued.numbers_of.Given as goal
 

@@ -5,7 +5,7 @@ use Rattle.qe_syntax.specs.CodeTrees.{formula_tree}
 use Rattle.qe_syntax.specs.Valued.{prefix_of}
 use Rattle.qe_syntax.proofs.NameSearch.{was_absent, was_known}
 use Rattle.qe_syntax.proofs.Quantified.{unquantified, no_prefix, after_name}
-use Rattle.formula_tree.specs.Resolving.{place}
+use Rattle.formula_tree.specs.Names.{place}
 use Rattle.free_names.proofs.Lists.{Puts}
 use Rattle.free_names.proofs.Scopes.{IsOpening, opening_known, opening_new, opening_end}
 use Rattle.free_names.proofs.valued.open_scope.Goals as goal

@@ -5,8 +5,8 @@ use Rattle.atom_normal.specs.Atoms.{context_of}
 use Rattle.atom_normal.specs.NormalForm.{IsNormal}
 use Rattle.formula_resolving.specs.BoundIds.{trees_bound}
 use Rattle.formula_store.specs.Nodes.{tree}
-use Rattle.formula_tree.specs.ResolvedLaws.{HasNormalTrees}
-use Rattle.formula_tree.proofs.ResolvedTruth.{resolving_is_normal}
+use Rattle.resolved_formulas.specs.ResolvedLaws.{HasNormalTrees}
+use Rattle.resolved_formulas.proofs.ResolvedTruth.{resolving_is_normal}
 use Rattle.qe_syntax.specs.CodeTrees.{formula_tree}
 use Rattle.gate_calls.proofs.reading.resolved_id.Goals as goal
 

@@ -5,7 +5,7 @@ use Rattle.std.proofs.lemmas.Result.{IfOk-weaker}
 use Rattle.qe_syntax.specs.CodeTrees.{term_tree}
 use Rattle.qe_syntax.proofs.TermParts.{quotient_is}
 use Rattle.formula_tree.specs.Names.{with_name}
-use Rattle.formula_tree.specs.Resolving.{variables_of}
+use Rattle.resolved_formulas.specs.Resolving.{variables_of}
 use Rattle.written_atoms.proofs.TermSizes.{term_size, terms_size, member_smaller}
 use Rattle.least_queries.proofs.copies.+copied.Goals as goal
 

@@ -3,7 +3,7 @@ use Rattle.std.specs.List.{fold}
 use Rattle.qe_syntax.specs.Trees.{terms_of}
 use Rattle.qe_syntax.specs.CodeTrees.{term_tree, term_trees}
 use Rattle.formula_tree.specs.Names.{with_name}
-use Rattle.formula_tree.specs.Resolving.{variables_in}
+use Rattle.resolved_formulas.specs.Resolving.{variables_in}
 use Rattle.written_atoms.proofs.TermSizes.{term_size, terms_size}
 use Rattle.least_queries.proofs.copies.+copied.Given as goal
 

@@ -4,7 +4,7 @@ use Rattle.std.proofs.lemmas.List.Sums.{fold-append}
 use Rattle.std.proofs.lemmas.Result.{IfOk-weaker}
 use Rattle.qe_syntax.specs.CodeTrees.{term_tree, formula_tree}
 use Rattle.formula_tree.specs.Names.{with_name}
-use Rattle.formula_tree.specs.Resolving.{variables_of, formula_variables}
+use Rattle.resolved_formulas.specs.Resolving.{variables_of, formula_variables}
 use Rattle.qe_syntax.proofs.TreeEquations.{formula-Compare}
 use Rattle.least_queries.proofs.CopySteps.{comparison_alone}
 use Rattle.least_queries.proofs.copies.copied_comparison.Goals as goal

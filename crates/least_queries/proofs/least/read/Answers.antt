@@ -1,6 +1,6 @@
 use Rattle.std.proofs.Common.{refl, sym, subst}
 use Rattle.formula_resolving.specs.Numbering.{Grows}
-use Rattle.formula_tree.specs.Resolving.{formula_variables}
+use Rattle.resolved_formulas.specs.Resolving.{formula_variables}
 use Rattle.qe_syntax.specs.CodeTrees.{formula_tree}
 use Rattle.least_queries.proofs.ProblemNames.{grows_all}
 use Rattle.least_queries.proofs.least.read.Goals as goal

@@ -4,7 +4,7 @@ use Rattle.qe_syntax.specs.Trees.{formulas_of}
 use Rattle.qe_syntax.specs.CodeTrees.{formula_tree}
 use Rattle.statement_syntax.specs.Constraints.{is_weak_constraint}
 use Rattle.formula_tree.specs.Names.{with_name}
-use Rattle.formula_tree.specs.Resolving.{all_variables}
+use Rattle.resolved_formulas.specs.Resolving.{all_variables}
 use Rattle.least_queries.proofs.problem.copies.Given as goal
 
 -- the copies so far and the formulas that are left, and the names with those of the formulas that are left

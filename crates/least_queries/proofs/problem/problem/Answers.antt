@@ -9,7 +9,7 @@ use Rattle.qe_syntax.specs.CodeTrees.{term_tree, formula_tree}
 use Rattle.qe_syntax.proofs.TreeEquations.{tree-Name}
 use Rattle.redlog_reader.specs.Grammar.{quantified_names}
 use Rattle.formula_tree.specs.Names.{with_name}
-use Rattle.formula_tree.specs.Resolving.{all_variables, variables_of}
+use Rattle.resolved_formulas.specs.Resolving.{all_variables, variables_of}
 use Rattle.problem_reading.specs.FromSessionMeaning.{target_name, problem_names}
 use Rattle.problem_reading.proofs.FromSessionState.{AllVariables}
 use Rattle.least_queries.proofs.ProblemSteps.{weak_items, names_variables, names_split}

@@ -1,7 +1,7 @@
 use Rattle.std.proofs.Common.{drop, take}
 use Rattle.std.specs.List.{AllByRecursion}
 use Rattle.statement_syntax.specs.Writable.{AreWritableAxes}
-use Rattle.formula_tree.specs.Resolving.{place}
+use Rattle.formula_tree.specs.Names.{place}
 use Rattle.session_meaning.specs.Grids.{AreAxes}
 use Rattle.point_queries.specs.GridSteps.{IsDivided}
 use Rattle.point_queries.proofs.grids.axes_of.Given as goal

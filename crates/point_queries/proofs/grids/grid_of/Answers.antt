@@ -1,6 +1,6 @@
 use Rattle.std.proofs.Common.{Err, List, inl, inr, ⊎_elim, sym, ap, subst}
 use Rattle.std.proofs.lemmas.Result.{err_from_is_err_and}
-use Rattle.formula_tree.specs.Resolving.{place}
+use Rattle.formula_tree.specs.Names.{place}
 use Rattle.atom_normal.specs.Atoms.{context_of}
 use Rattle.point_grid.specs.declared.axis.Axis.{Axis}
 use Rattle.session_meaning.specs.Grids.{lows, AreAxes}

@@ -5,7 +5,7 @@ use Rattle.atom_normal.specs.declared.atoms.Context.{Context}
 use Rattle.atom_normal.specs.Atoms.{context_of}
 use Rattle.atom_normal.specs.NormalForm.{IsNormal}
 use Rattle.qe_syntax.specs.PointNumbers.{point_of}
-use Rattle.formula_tree.specs.Resolving.{at_names}
+use Rattle.resolved_formulas.specs.Resolving.{at_names}
 use Rattle.formula_store.specs.Nodes.{tree}
 use Rattle.point_queries.proofs.PointLemmas.{same_point, point_there}
 use Rattle.point_queries.proofs.TruthLemmas.{truth_there, truth_stopped}

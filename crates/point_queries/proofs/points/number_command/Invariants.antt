@@ -2,7 +2,7 @@ use Rattle.std.proofs.Common.{◌≡◌, ◌++◌, take}
 use Rattle.std.specs.List.{fold}
 use Rattle.qe_syntax.specs.CodeTrees.{formula_tree}
 use Rattle.formula_tree.specs.Names.{with_name}
-use Rattle.formula_tree.specs.Resolving.{formula_variables}
+use Rattle.resolved_formulas.specs.Resolving.{formula_variables}
 use Rattle.formula_resolving.specs.Numbering.{Grows}
 use Rattle.point_queries.specs.Asked.{entry_names}
 use Rattle.point_queries.proofs.points.number_command.Given as goal

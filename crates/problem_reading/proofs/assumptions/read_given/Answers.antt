@@ -4,7 +4,7 @@ use Rattle.qe_syntax.specs.Writable.{IsWritableFormula}
 use Rattle.qe_syntax.specs.Trees.{formulas_of}
 use Rattle.qe_syntax.specs.CodeTrees.{formula_tree}
 use Rattle.qe_syntax.proofs.EntryLists.{all_at, more_entries}
-use Rattle.formula_tree.specs.Resolving.{resolve}
+use Rattle.resolved_formulas.specs.Resolving.{resolve}
 use Rattle.formula_tree.specs.Makers.{AreMade}
 use Rattle.formula_store.specs.Nodes.{tree, IsId}
 use Rattle.command_tools.specs.FromSessionMeaning.{resolved_all, State}

@@ -8,9 +8,9 @@ use Rattle.qe_syntax.specs.CodeTrees.{term_tree}
 use Rattle.qe_syntax.specs.declared.tree.Term.{Term}
 use Rattle.qe_syntax.proofs.EntryLists.{rest_at, none_left}
 use Rattle.qe_syntax.proofs.TermParts.{quotient_is, power_is, negative_is}
-use Rattle.formula_tree.specs.RationalForms.{constant_form, formed}
-use Rattle.formula_tree.specs.Resolving.{place}
-use Rattle.formula_tree.proofs.LowestForms.{form_is_lowest}
+use Rattle.resolved_formulas.specs.RationalForms.{constant_form, formed}
+use Rattle.formula_tree.specs.Names.{place}
+use Rattle.resolved_formulas.proofs.LowestForms.{form_is_lowest}
 use Rattle.written_atoms.specs.Rational.{Shows, rational_of}
 use Rattle.written_atoms.specs.Sum.{IsSummed}
 use Rattle.written_atoms.specs.Term.{IsTermRead}

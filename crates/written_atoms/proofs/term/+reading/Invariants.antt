@@ -3,7 +3,7 @@ use Rattle.atom_normal.specs.Atoms.{context_of}
 use Rattle.qe_syntax.specs.Proper.{AreProperTerms}
 use Rattle.qe_syntax.specs.Trees.{terms_of}
 use Rattle.qe_syntax.specs.CodeTrees.{term_tree}
-use Rattle.formula_tree.specs.Resolving.{place}
+use Rattle.formula_tree.specs.Names.{place}
 use Rattle.written_atoms.proofs.TermSizes.{term_size, terms_size}
 use Rattle.written_atoms.proofs.Readings.{SumLeft, ProductLeft}
 use Rattle.written_atoms.proofs.term.+reading.Given as goal

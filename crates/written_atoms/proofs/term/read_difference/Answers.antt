@@ -2,7 +2,7 @@ use Rattle.std.proofs.Common.{sym, subst}
 use Rattle.atom_normal.specs.Atoms.{context_of}
 use Rattle.qe_syntax.specs.Trees.{TermTree}
 use Rattle.qe_syntax.specs.CodeTrees.{term_tree}
-use Rattle.formula_tree.specs.Resolving.{place}
+use Rattle.formula_tree.specs.Names.{place}
 use Rattle.written_atoms.specs.declared.term.ReadTerm.{ReadTerm}
 use Rattle.written_atoms.specs.Term.{IsTermRead, IsDifferenceRead}
 use Rattle.written_atoms.proofs.Nothing.{nothing_taken}

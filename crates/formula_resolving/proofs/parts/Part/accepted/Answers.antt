@@ -1,6 +1,6 @@
 use Rattle.std.proofs.Common.{ℕ, false, [], sym}
 use Rattle.formula_meaning.specs.Formula.{Yes}
-use Rattle.formula_tree.specs.Resolving.{formula_variables}
+use Rattle.resolved_formulas.specs.Resolving.{formula_variables}
 use Rattle.formula_resolving.proofs.FirstCause.{unmet}
 use Rattle.formula_resolving.proofs.Refusing.{accepted, refused, none_bound}
 use Rattle.formula_resolving.proofs.parts.Part.accepted.Goals as goal

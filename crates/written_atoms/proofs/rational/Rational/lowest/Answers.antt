@@ -6,7 +6,7 @@ use Rattle.exact_numbers.specs.Limit.{InLimit}
 use Rattle.exact_numbers.specs.Divides.{content_of}
 use Rattle.exact_numbers.proofs.Casts.{fits, same_bits}
 use Rattle.linear_forms.specs.Reduction.{quotient}
-use Rattle.formula_tree.specs.RationalForms.{numbers_of}
+use Rattle.resolved_formulas.specs.RationalForms.{numbers_of}
 use Rattle.written_atoms.proofs.Steps.{lowest_already, lowest_divided, denominator_positive}
 use Rattle.written_atoms.proofs.rational.Rational.lowest.Goals as goal
 

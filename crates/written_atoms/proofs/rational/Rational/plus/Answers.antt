@@ -8,7 +8,7 @@ use Rattle.exact_numbers.proofs.Casts.{fits}
 use Rattle.exact_numbers.proofs.Limits.{formed_by}
 use Rattle.formula_meaning.specs.Combining.{CombinePasses}
 use Rattle.linear_forms.specs.Combinations.{IsLinear, IsCombination}
-use Rattle.formula_tree.specs.RationalForms.{lowest_form}
+use Rattle.resolved_formulas.specs.RationalForms.{lowest_form}
 use Rattle.written_atoms.specs.declared.rational.Rational.{Rational}
 use Rattle.written_atoms.specs.Rational.{rational_of}
 use Rattle.written_atoms.proofs.Steps.{AreSummed, sum_gives, sum_stops, multiple_stops}

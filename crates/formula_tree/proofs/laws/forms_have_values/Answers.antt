@@ -1,7 +1,0 @@
-use Rattle.formula_tree.proofs.FormValues.{form_has_value}
-use Rattle.formula_tree.proofs.LowestForms.{form_is_lowest}
-use Rattle.formula_tree.proofs.MissingForms.{missing_has_cause}
-use Rattle.formula_tree.proofs.laws.forms_have_values.Goals as goal
-
-pub returns : goal.returns
-returns c = record { value = form_has_value; lowest = form_is_lowest; missing = missing_has_cause }

@@ -1,5 +1,0 @@
-use Rattle.formula_tree.proofs.RuleLaw.{rule_of_fractions}
-use Rattle.formula_tree.proofs.laws.fractions_go_by_the_rule.Goals as goal
-
-pub returns : goal.returns
-returns c = rule_of_fractions
