@@ -1,4 +1,4 @@
-//! What a script says: names, terms, formulas and points as plain trees, and what they mean.
+//! What a script says: terms, formulas and points as plain trees, and what they mean.
 #![tactic(auto)]
 
 mod entries;

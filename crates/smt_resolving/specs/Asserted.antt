@@ -1,4 +1,4 @@
--- What becomes of an assertion: its formula in the language, as the maker keeps it, or the first cause for which there is none.
+-- What becomes of an assertion: its formula in the language, or the first cause for which there is none.
 use Rattle.std.specs.Prelude.{◌≡◌, ◌<◌, ◌≤◌, ◌+◌, ℕ, List, [], Bool, false, Some, None, length}
 use Rattle.formula_meaning.specs.Context.{Context}
 use Rattle.qe_syntax.specs.Trees.{FormulaTree}
