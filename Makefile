@@ -9,7 +9,7 @@ JOBS ?= $(shell echo $$(($$(nproc) + 2)))
 
 PREFIX ?= /usr/local
 VERSION ?= 0.1.0
-PAGES = docs/LANGUAGE.md docs/TUTORIAL.md docs/THEOREMS.md docs/TESTED.md docs/TRUSTED.md docs/DEFINITIONS.md docs/DECISIONS.md README.md
+PAGES = $(wildcard docs/*.md)
 PACKAGE = bin/redlog_$(VERSION)_amd64
 
 .PHONY: all test install uninstall deb clean
@@ -30,8 +30,9 @@ test:
 install: bin/redlog
 	install -D -m 755 bin/redlog $(DESTDIR)$(PREFIX)/bin/redlog
 	install -D -m 644 man/redlog.1 $(DESTDIR)$(PREFIX)/share/man/man1/redlog.1
-	install -d $(DESTDIR)$(PREFIX)/share/doc/redlog
-	install -m 644 $(PAGES) $(DESTDIR)$(PREFIX)/share/doc/redlog
+	install -d $(DESTDIR)$(PREFIX)/share/doc/redlog/docs
+	install -m 644 README.md $(DESTDIR)$(PREFIX)/share/doc/redlog
+	install -m 644 $(PAGES) $(DESTDIR)$(PREFIX)/share/doc/redlog/docs
 	install -D -m 644 editors/vim/syntax/redlog.vim $(DESTDIR)$(PREFIX)/share/vim/vimfiles/syntax/redlog.vim
 	install -D -m 644 editors/vim/ftdetect/redlog.vim $(DESTDIR)$(PREFIX)/share/vim/vimfiles/ftdetect/redlog.vim
 
