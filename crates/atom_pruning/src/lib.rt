@@ -2,6 +2,7 @@
 #![tactic(auto)]
 
 mod combination;
+mod directions;
 mod implied;
 mod names;
 mod outlook;
@@ -10,11 +11,15 @@ mod question;
 mod row_list;
 mod rows;
 mod sample;
+mod sides;
 mod signs;
+mod table;
 
+pub use directions::Directions;
 pub use implied::are_implied;
 pub use outlook::{Outlook, may_be_pruned};
 pub use pruning::{Pruned, are_impossible, kept};
 pub use rows::AtomRows;
 pub use sample::Sample;
 pub use signs::may_be_decided;
+pub use table::Table;

@@ -1,6 +1,7 @@
 //! The names of rows, numbered without gaps.
 
 use crate::row_list::RowList;
+use crate::rows::AtomRows;
 use linear_forms::Linear;
 use std::alloc::{AllocError, Global};
 
@@ -16,6 +17,19 @@ impl Names {
         let mut names = Vec::new(alloc);
         for place in 0..rows.len() {
             if let Some(row) = rows.get(place) {
+                add_names(&mut names, &row.form)?;
+            }
+        }
+        names.sort_unstable();
+        names.dedup();
+        Ok(Names { names })
+    }
+
+    // The names of the atoms with these rows.
+    pub(crate) fn of_atoms(alloc: Global, atoms: &[&AtomRows]) -> Result<Names, AllocError> {
+        let mut names = Vec::new(alloc);
+        for rows in atoms {
+            for row in rows.holds.iter().chain(&rows.fails) {
                 add_names(&mut names, &row.form)?;
             }
         }

@@ -9,18 +9,17 @@ ghost use Rattle.branch_pruning.specs.Compared.{Implies, IsCovered};
 
 use crate::conjunction::Conjunction;
 use crate::doubts::Doubts;
+use crate::numbered::Numbered;
 use atom_pruning::{AtomRows, are_implied};
-use formula_store::FormulaId;
 use std::alloc::{AllocError, Global};
 use std::slice;
 
-/// What compares conjunctions under the assumptions that have these rows, as far as the effort goes: conjunctions of these atoms, which
-/// rise.
+/// What compares conjunctions under the assumptions that have these rows, as far as the effort goes.
 #[derive(Drop)]
 pub(crate) struct Comparer {
     pub alloc: Global,
     pub assumed: Vec<AtomRows>,
-    pub atoms: Vec<FormulaId>,
+    pub numbered: Numbered,
     pub effort: u64,
 }
 
@@ -42,29 +41,29 @@ impl Comparer {
         let Some(given) = given else {
             return Ok(false);
         };
-        let mut doubts = self.doubts(given)?;
+        let mut doubts = self.doubts(place)?;
         for (i, other) in all.iter().enumerate() {
-            if i != place && marks[i] && self.implies(given, &mut doubts, other)? {
+            if i != place && marks[i] && self.implies(given, &mut doubts, i, other)? {
                 return Ok(true);
             }
         }
         Ok(false)
     }
 
-    // What is doubted beside a conjunction, at first.
-    fn doubts(&mut self, given: &Conjunction) -> Result<Doubts, AllocError>
+    // What is doubted beside the conjunction at a place, at first.
+    fn doubts(&mut self, place: usize) -> Result<Doubts, AllocError>
         ensures assumed { OnOk result (self.new.assumed.items ≡ self.old.assumed.items) }
         ensures effort { OnOk result (self.new.effort ≤ self.old.effort) }
     {
-        let count = self.atoms.len();
-        Doubts::of(self.alloc, &self.assumed, given, count, &mut self.effort)
+        Doubts::of(self.alloc, &self.numbered, place, &mut self.effort)
     }
 
-    // Whether the first conjunction, beside which these doubts stand, implies the other, if that is one.
+    // Whether the first conjunction, beside which these doubts stand, implies that at the place, if there is one.
     fn implies(
         &mut self,
         given: &Conjunction,
         doubts: &mut Doubts,
+        place: usize,
         other: &Option<Conjunction>,
     ) -> Result<bool, AllocError>
         ensures implied { IfOk result (λ b. IsTrue b → IsSomeAnd other.now (Implies self.old.assumed.items given.now)) }
@@ -73,7 +72,16 @@ impl Comparer {
     {
         match other {
             Some(other) => {
-                if doubts.refuse(given, &self.atoms, other) {
+                let refused = doubts.refuse(
+                    self.alloc,
+                    &self.assumed,
+                    given,
+                    &self.numbered,
+                    place,
+                    other,
+                    &mut self.effort,
+                )?;
+                if refused {
                     return Ok(false);
                 }
                 self.implies_each(given, doubts, other)
@@ -98,7 +106,7 @@ impl Comparer {
                 continue;
             }
             if !self.shows(given, rows)? {
-                doubts.add(&self.atoms, *id);
+                doubts.add(self.numbered.number(*id));
                 return Ok(false);
             }
         }

@@ -10,6 +10,7 @@ ghost use Rattle.branch_pruning.specs.Compared.{AreConjunctionsOf};
 
 use crate::comparing::Comparer;
 use crate::conjunction::Conjunction;
+use crate::numbered::Numbered;
 use crate::rows::rows_of_atoms;
 use atom_normal::{Atom, Context};
 use formula_store::{FormulaId, Store};
@@ -39,10 +40,11 @@ pub fn uncovered(
         return Ok(marks);
     }
     let conjunctions = conjunctions_of(alloc, context, store, formulas)?;
+    let assumed = rows_of_atoms(alloc, context, assumed)?;
     let mut comparer = Comparer {
         alloc,
-        assumed: rows_of_atoms(alloc, context, assumed)?,
-        atoms: atoms_of_all(alloc, &conjunctions)?,
+        numbered: Numbered::of_all(alloc, &assumed, &conjunctions)?,
+        assumed,
         effort: *effort,
     };
     for (i, conjunction) in conjunctions.iter().enumerate() {
@@ -70,18 +72,4 @@ fn conjunctions_of(
         conjunctions.push(conjunction)?;
     }
     Ok(conjunctions)
-}
-
-// The atoms of the conjunctions, rising and each once.
-fn atoms_of_all(
-    alloc: Global,
-    conjunctions: &[Option<Conjunction>],
-) -> Result<Vec<FormulaId>, AllocError> {
-    let mut atoms = Vec::new(alloc);
-    for conjunction in conjunctions.iter().flatten() {
-        atoms.extend_from_slice(&conjunction.ids)?;
-    }
-    atoms.sort_unstable();
-    atoms.dedup();
-    Ok(atoms)
 }

@@ -9,6 +9,7 @@ mod deciding;
 mod doubts;
 mod impossible;
 mod members;
+mod numbered;
 mod pruning;
 mod rows;
 

@@ -17,7 +17,7 @@ pub fn never_refused_is_unrefused()
 {}
 
 /// A script whose first statement is `end`, `bye` or `quit` has exactly one run, which has no line. One whose statements,
-/// through the first that ends it, are empty, ignored or choices of a theory has exactly one, which has the lines of the choices.
+/// through the first that ends it, are empty, ignored, choices of a theory or `rlretract` has exactly one, which has their lines.
 /// No run of such a script has a refusal, so `run` answers it or runs out of memory. `rlset pasf; end;` is such a script.
 pub fn scripts_without_formulas()
     ensures ending { EndingIsAnswered }

@@ -4,6 +4,7 @@
 
 mod corner;
 mod numbers;
+mod pair;
 mod reduction;
 mod search;
 mod system;

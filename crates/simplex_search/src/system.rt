@@ -3,6 +3,7 @@ ghost use Rattle.std.specs.Prelude.{◌≡◌, ◌+◌, ◌≤◌, vec_len, OnOk
 
 use crate::corner::Negations;
 use crate::numbers::gcd;
+use crate::pair::multipliers_of_two;
 use crate::reduction::Reduction;
 use crate::search::{Outcome, spend};
 use crate::tableau::Tableau;
@@ -45,6 +46,11 @@ pub(crate) struct Row {
 }
 
 impl Row {
+    // Whether the row has no name and every point meets it.
+    fn is_nothing(&self) -> bool {
+        self.terms.is_empty() && self.constant == 0 && self.sense != Sense::Below
+    }
+
     // The greatest constant that an allowed multiple by 1 or -1 has.
     pub(crate) fn greatest_constant(&self) -> i128 {
         match self.sense {
@@ -131,6 +137,9 @@ impl System {
         ensures shape { IfOk result (λ found. IfSome found (λ v. vec_len v ≡ self.now)) }
         ensures effort { effort.new ≤ effort.old }
     {
+        if let Some((first, second)) = self.two_marked(wanted) {
+            return self.multipliers_of(first, second);
+        }
         let Some(mut tableau) = self.tableau(wanted, effort)? else {
             return Ok(None);
         };
@@ -138,6 +147,39 @@ impl System {
             Some(Outcome::Contradiction(place)) => self.multipliers_at(&tableau, place),
             Some(Outcome::Met) | None => Ok(None),
         }
+    }
+
+    // The places of the rows that are marked and say something, if they are two.
+    fn two_marked(&self, wanted: &[bool]) -> Option<(usize, usize)> {
+        let mut one = None;
+        let mut two = None;
+        for (place, (row, mark)) in self.rows.iter().zip(wanted).enumerate() {
+            if *mark && !row.is_nothing() {
+                match (one, two) {
+                    (None, _) => one = Some(place),
+                    (Some(first), None) => two = Some((first, place)),
+                    (Some(_), Some(_)) => return None,
+                }
+            }
+        }
+        two
+    }
+
+    // The multipliers of all rows where those at two places alone are marked, which takes no search.
+    fn multipliers_of(&self, first: usize, second: usize) -> Result<Option<Vec<i128>>, AllocError>
+        ensures shape { IfOk result (λ found. IfSome found (λ v. vec_len v ≡ self.now)) }
+    {
+        let (Some(one), Some(other)) = (self.rows.get(first), self.rows.get(second)) else {
+            return Ok(None);
+        };
+        let Some((of_one, of_other)) = multipliers_of_two(one, other) else {
+            return Ok(None);
+        };
+        let mut multipliers = vec![in self.alloc; 0; self.rows.len()]?;
+        write(&mut multipliers, first, of_one);
+        write(&mut multipliers, second, of_other);
+        divide_by_content(&mut multipliers);
+        Ok(Some(multipliers))
     }
 
     /// The same; and where all rows that are marked are found to be met at some point, marks rows of them that the others do not imply:
@@ -232,6 +274,13 @@ impl System {
 pub struct Point {
     pub numerators: Vec<(i128, i128)>,
     pub denominator: i128,
+}
+
+// Writes a number to a place, if there is one.
+fn write(numbers: &mut [i128], place: usize, number: i128) {
+    if let Some(written) = numbers.get_mut(place) {
+        *written = number;
+    }
 }
 
 // Divides the numbers by their greatest common divisor, if it fits.

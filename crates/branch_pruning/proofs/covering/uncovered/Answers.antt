@@ -44,7 +44,7 @@ loop-i-preserved c =
     let nodes = c.args.store.now in
     let ids = c.args.formulas.now in
     let all : List (Option Conjunction) = c.in_ok-conjunctions.conjunctions.items in
-    let rows : List AtomRows = c.in_ok-rows_of_atoms.field-0.items in
+    let rows : List AtomRows = c.in_ok-assumed.assumed.items in
     let bs : List Bool = c.loop-i.marks.items in
     let i = c.loop-i.i in
     let item : Option Conjunction = c.conjunction-item.result in
@@ -62,7 +62,7 @@ loop-i-preserved c =
           let written : c.if-branch.marks.items ≡ set bs i false = search rules in
           record {
             one_each = grind (arith, common_steps);
-            cover = subst (Cover o ks (map (tree nodes) ids)) (sym written) (cover_step o ks nodes ids rows all bs i item c.in_ok-rows_of_atoms.ensures c.in_ok-conjunctions.ensures within is covered v.cover);
+            cover = subst (Cover o ks (map (tree nodes) ids)) (sym written) (cover_step o ks nodes ids rows all bs i item c.in_ok-assumed.ensures c.in_ok-conjunctions.ensures within is covered v.cover);
             assumed = c.in_ok-is_covered.ensures.assumed ∙ v.assumed;
             effort = let a = c.in_ok-is_covered.ensures.effort in let b = v.effort in omega arith;
           }
