@@ -8,21 +8,33 @@ use Rattle.redlog_tokens.specs.declared.terminal.Terminal.{Terminal}
 use Rattle.redlog_tokens.specs.declared.terminal.Terminal.TheVariants as terminal
 use Rattle.redlog_tokens.specs.declared.terminal.Word.TheVariants as word
 use Rattle.redlog_tokens.specs.Levels.{weight, change_of, changed, groups, run, run_before, level, Passes}
-use Rattle.redlog_tokens.specs.Counting.{count, stack, IsTotal, IsSmall, AreLevels, is_binder, is_not}
+use Rattle.redlog_tokens.specs.Counting.{count, stack, IsTotal, IsSmall, AreLevels, is_binder, is_of_run}
 
-run_is : (t : Terminal) (before : List Terminal) (r : ℕ) → r ≡ run before → (if is_not t then r + 1 else 0) ≡ run (t ∷ before)
+run_is : (t : Terminal) (before : List Terminal) (r : ℕ) → r ≡ run before → (if is_of_run t then r + 1 else 0) ≡ run (t ∷ before)
 run_is (terminal.Word word.Not) before r e = omega (arith, e)
+run_is (terminal.Word word.Nnf) before r e = omega (arith, e)
+run_is (terminal.Word word.Pnf) before r e = omega (arith, e)
+run_is (terminal.Word word.Dnf) before r e = omega (arith, e)
+run_is (terminal.Word word.Cnf) before r e = omega (arith, e)
+run_is (terminal.Word word.Simpl) before r e = omega (arith, e)
+run_is (terminal.Word word.Qe) before r e = omega (arith, e)
 run_is _ before r e = refl
 
 held_is : (t : Terminal) (before : List Terminal) (r : ℕ) → r ≡ run before
-    → run_before (t ∷ before) ≡ (if is_not t then r + 1 else 0) + (if is_binder t then r else 0)
+    → run_before (t ∷ before) ≡ (if is_of_run t then r + 1 else 0) + (if is_binder t then r else 0)
 held_is (terminal.Word word.Ex) before r e = omega (arith, e)
 held_is (terminal.Word word.All) before r e = omega (arith, e)
 held_is (terminal.Word word.Not) before r e = omega (arith, e)
+held_is (terminal.Word word.Nnf) before r e = omega (arith, e)
+held_is (terminal.Word word.Pnf) before r e = omega (arith, e)
+held_is (terminal.Word word.Dnf) before r e = omega (arith, e)
+held_is (terminal.Word word.Cnf) before r e = omega (arith, e)
+held_is (terminal.Word word.Simpl) before r e = omega (arith, e)
+held_is (terminal.Word word.Qe) before r e = omega (arith, e)
 held_is _ before r e = omega arith
 
 module _ (old new : Levels) (t : Terminal) (grouped : stack new ≡ changed (change_of t) (old.run + old.held) t (stack old))
-    (run_after : new.run ≡ (if is_not t then old.run + 1 else 0)) (held_after : new.held ≡ (if is_binder t then old.run else 0)) where
+    (run_after : new.run ≡ (if is_of_run t then old.run + 1 else 0)) (held_after : new.held ≡ (if is_binder t then old.run else 0)) where
   -- after one more token
   pub levels_taken : (before : List Terminal) → AreLevels old before → AreLevels new (t ∷ before)
   unfolding groups

@@ -120,6 +120,16 @@ quantified_run : level (opening ∷ terminal.Word word.Ex ∷ negation ∷ []) �
 unfolding groups
 quantified_run = refl
 
+-- rlnnf not rlqe ex ( : the words of a run count together
+commands_in_a_run : level (opening ∷ terminal.Word word.Ex ∷ terminal.Word word.Qe ∷ negation ∷ terminal.Word word.Nnf ∷ []) ≡ 4
+unfolding groups
+commands_in_a_run = refl
+
+-- rlqea rlqe : a command that stands inside no formula begins no run
+no_run : level (terminal.Word word.Qe ∷ terminal.Word word.Qea ∷ []) ≡ 1
+unfolding groups
+no_run = refl
+
 -- x / x / x, and a sum ends the run of /
 two_slashes : level (name_x ∷ slash ∷ name_x ∷ slash ∷ name_x ∷ []) ≡ 2
 unfolding groups

@@ -37,7 +37,13 @@ is_binder (terminal.Word word.Ex) = true
 is_binder (terminal.Word word.All) = true
 is_binder _ = false
 
--- not
-abbrev pub is_not : Terminal → Bool
-is_not (terminal.Word word.Not) = true
-is_not _ = false
+-- a word of which neighbours form a run
+abbrev pub is_of_run : Terminal → Bool
+is_of_run (terminal.Word word.Not) = true
+is_of_run (terminal.Word word.Nnf) = true
+is_of_run (terminal.Word word.Pnf) = true
+is_of_run (terminal.Word word.Dnf) = true
+is_of_run (terminal.Word word.Cnf) = true
+is_of_run (terminal.Word word.Simpl) = true
+is_of_run (terminal.Word word.Qe) = true
+is_of_run _ = false

@@ -8,7 +8,9 @@ use Rattle.redlog_tokens.specs.declared.terminal.Terminal.TheVariants as termina
 use Rattle.redlog_tokens.specs.declared.terminal.Mark.TheVariants as mark
 use Rattle.redlog_tokens.specs.declared.terminal.Word.TheVariants as word
 
--- What counts in an open group: opened is 1 for its bracket with each not of the run before that, arrows are the words
+-- A run is a row of neighbouring words among not, rlnnf, rlpnf, rldnf, rlcnf, rlsimpl and rlqe: those that stand before a part of a formula.
+
+-- What counts in an open group: opened is 1 for its bracket with each word of the run before that, arrows are the words
 -- impl, repl and equiv since the group's last comma, and slashes its / since its last token that no product goes on with.
 
 -- what an open group adds to the level of the tokens in it
@@ -19,10 +21,16 @@ weight g = g.opened + g.arrows + g.slashes
 abbrev pub outside : Group
 outside = record { opened = 0; arrows = 0; slashes = 0 }
 
--- how many of these tokens, the last of which comes first, are the run of not that ends there
+-- how many of these tokens, the last of which comes first, are the run that ends there
 abbrev pub run : List Terminal → ℕ
 run [] = 0
 run (terminal.Word word.Not ∷ before) = suc (run before)
+run (terminal.Word word.Nnf ∷ before) = suc (run before)
+run (terminal.Word word.Pnf ∷ before) = suc (run before)
+run (terminal.Word word.Dnf ∷ before) = suc (run before)
+run (terminal.Word word.Cnf ∷ before) = suc (run before)
+run (terminal.Word word.Simpl ∷ before) = suc (run before)
+run (terminal.Word word.Qe ∷ before) = suc (run before)
 run (_ ∷ before) = 0
 
 -- the run that stands just before a bracket, or just before the ex or all of one
@@ -64,19 +72,18 @@ abbrev pub going_on : Terminal → List Group → List Group
 going_on t [] = []
 going_on t (g ∷ gs) = after t g ∷ gs
 
--- the open groups after one more token, which so many not stand before
+-- the open groups after one more token, which a run of so many words stands before
 abbrev pub changed : Change → ℕ → Terminal → List Group → List Group
-changed change.Opens nots t gs = record { opened = suc nots; arrows = 0; slashes = 0 } ∷ gs
-changed change.Closes nots t gs = closing gs
-changed change.Inside nots t gs = going_on t gs
+changed change.Opens words t gs = record { opened = suc words; arrows = 0; slashes = 0 } ∷ gs
+changed change.Closes words t gs = closing gs
+changed change.Inside words t gs = going_on t gs
 
 -- the open groups after these tokens, the last of which comes first; the inmost group comes first
 unfoldable pub groups : List Terminal → List Group
 groups [] = outside ∷ []
 groups (t ∷ before) = changed (change_of t) (run_before before) t (groups before)
 
--- the level of the last of these tokens, which comes first. A run of not counts where it ends, so each not
--- counts those before it
+-- the level of the last of these tokens, which comes first. A run counts where it ends, so each of its words counts those before it
 abbrev pub level : List Terminal → ℕ
 level ts = sum_by weight (groups ts) + run ts
 

@@ -2,7 +2,7 @@ ghost use Rattle.std.specs.Prelude.{◌≡◌, suc, ◌+◌, ◌≤◌, List, []
 ghost use Rattle.std.specs.Bool.{MatchBool};
 ghost use Rattle.redlog_tokens.specs.declared.terminal.Terminal.{Terminal};
 ghost use Rattle.redlog_tokens.specs.Levels.{weight, after, change_of, changed, closing, Passes};
-ghost use Rattle.redlog_tokens.specs.Counting.{AreLevels, IsSmall, IsTotal, stack, count, is_binder, is_not};
+ghost use Rattle.redlog_tokens.specs.Counting.{AreLevels, IsSmall, IsTotal, stack, count, is_binder, is_of_run};
 
 use crate::terminal::{Mark, Terminal, Word};
 use std::alloc::{AllocError, Global};
@@ -26,9 +26,9 @@ pub struct Levels {
     pub inmost: Group,
     // What counts in the groups around.
     pub total: usize,
-    // The `not`s that end at the last token.
+    // The words of the run that ends at the last token.
     pub run: usize,
-    // The `not`s just before a binder that is the last token.
+    // The words of the run just before a binder that is the last token.
     pub held: usize,
 }
 
@@ -170,7 +170,7 @@ fn change_of(terminal: &Terminal) -> Change
     }
 }
 
-/// The run of `not` before a binder, where the token is one.
+/// The run before a binder, where the token is one.
 fn held_after(terminal: &Terminal, run: usize) -> usize
     ensures { result ≡ (if is_binder terminal.now then run else 0) }
 {
@@ -180,13 +180,15 @@ fn held_after(terminal: &Terminal, run: usize) -> usize
     }
 }
 
-/// The run of `not` that ends at the token.
+/// The run that ends at the token.
 fn run_after(terminal: &Terminal, run: usize) -> usize
     requires { run ≤ 512 }
-    ensures { result ≡ (if is_not terminal.now then run + 1 else 0) }
+    ensures { result ≡ (if is_of_run terminal.now then run + 1 else 0) }
 {
     match terminal {
-        Terminal::Word(Word::Not) => run + 1,
+        Terminal::Word(
+            Word::Not | Word::Nnf | Word::Pnf | Word::Dnf | Word::Cnf | Word::Simpl | Word::Qe,
+        ) => run + 1,
         _ => 0,
     }
 }

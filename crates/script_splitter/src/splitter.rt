@@ -9,7 +9,7 @@ use std::marker::Model;
 use std::mem;
 
 /// A piece of at most so many bytes is held.
-pub const PIECE_LIMIT: u64 = 1_048_576;
+pub const PIECE_LIMIT: u64 = 4_194_304;
 
 /// A piece of a script, from its first token through its end mark: the offset of that token, and the bytes where they are within the limit.
 #[derive(Drop)]
