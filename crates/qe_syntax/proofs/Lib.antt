@@ -14,3 +14,5 @@ pub mod OnePoint
 pub mod Examples
 pub mod FromExactNumbers
 pub mod FromFormulaMeaning
+pub mod Alone
+pub mod InnerCommands

@@ -7,11 +7,12 @@ use Rattle.qe_syntax.specs.declared.tree.Formula as written
 use Rattle.qe_syntax.specs.declared.tree.Formula.TheVariants as formula
 use Rattle.qe_syntax.specs.declared.tree.Formula.TheOpen as layer
 use Rattle.qe_syntax.specs.declared.tree.Formulas as writtens
+use Rattle.qe_syntax.specs.declared.tree.InnerCommand as commands
 use Rattle.qe_syntax.specs.Trees.{FormulaTree}
 use Rattle.qe_syntax.specs.CodeTrees.{formula_tree}
 use Rattle.qe_syntax.specs.FreeNames.{IsFree}
 use Rattle.qe_syntax.specs.Valued.{IsIn, prefix_of, matrix_of, IsUnquantified}
-use Rattle.qe_syntax.proofs.TreeEquations.{formula-True, formula-False, formula-Compare, formula-Cong, formula-Ncong, formula-Not, formula-And, formula-Or, formula-Impl, formula-Repl, formula-Equiv, formula-Ex, formula-All, formula-Named}
+use Rattle.qe_syntax.proofs.TreeEquations.{formula-True, formula-False, formula-Compare, formula-Cong, formula-Ncong, formula-Not, formula-And, formula-Or, formula-Impl, formula-Repl, formula-Equiv, formula-Ex, formula-All, formula-Named, formula-Computed}
 
 -- a value that is made by neither quantifier
 pub unquantified : (f : written.Formula) → ((x : List ℕ) (b : Box written.Formula Global) → ¬ (f ≡ formula.Ex x b)) → ((x : List ℕ) (b : Box written.Formula Global) → ¬ (f ≡ formula.All x b))
@@ -21,7 +22,7 @@ unquantified f no_ex no_all = at (written.out-Formula f) (written.roll-out-Formu
     made : (g : written.Formula) (t : FormulaTree) → formula_tree g ≡ t → IsUnquantified t → g ≡ f → IsUnquantified (formula_tree f)
     made g t e h is = subst (λ (x : written.Formula). IsUnquantified (formula_tree x)) is (subst IsUnquantified (sym e) h)
 
-    at : (l : layer.Formula-F written.Formula writtens.Formulas) → written.roll-Formula l ≡ f → IsUnquantified (formula_tree f)
+    at : (l : layer.Formula-F written.Formula commands.InnerCommand writtens.Formulas) → written.roll-Formula l ≡ f → IsUnquantified (formula_tree f)
     at layer.True e = made formula.True _ formula-True tt (sym formula.rolls-True ∙ e)
     at layer.False e = made formula.False _ formula-False tt (sym formula.rolls-False ∙ e)
     at (layer.Compare r s t) e = made (formula.Compare r s t) _ (formula-Compare r s t) tt (sym (formula.rolls-Compare r s t) ∙ e)
@@ -36,6 +37,7 @@ unquantified f no_ex no_all = at (written.out-Formula f) (written.roll-out-Formu
     at (layer.Ex x g) e = absurd (no_ex x g (sym e ∙ formula.rolls-Ex x g))
     at (layer.All x g) e = absurd (no_all x g (sym e ∙ formula.rolls-All x g))
     at (layer.Named x) e = made (formula.Named x) _ (formula-Named x) tt (sym (formula.rolls-Named x) ∙ e)
+    at (layer.Computed c) e = made (formula.Computed c) _ (formula-Computed c) tt (sym (formula.rolls-Computed c) ∙ e)
 
 pub no_prefix : (t : FormulaTree) → IsUnquantified t → (prefix_of t ≡ []) × (matrix_of t ≡ t)
 no_prefix (plain.Ex x f) h = absurd h

@@ -1,4 +1,5 @@
 -- The trees that the code's terms and formulas stand for.
+use Rattle.std.specs.Prelude.{ℕ}
 use Rattle.formula_meaning.specs.Formula.{Formula, Formulas}
 use Rattle.formula_meaning.specs.Formula as plain
 use Rattle.qe_syntax.specs.declared.tree.Term as code
@@ -7,7 +8,9 @@ use Rattle.qe_syntax.specs.declared.tree.Terms as codes
 use Rattle.qe_syntax.specs.declared.tree.Formula as written
 use Rattle.qe_syntax.specs.declared.tree.Formula.TheOpen as open_formula
 use Rattle.qe_syntax.specs.declared.tree.Formulas as writtens
-use Rattle.qe_syntax.specs.Trees.{TermTree, TermTrees, Number, Named, Sum, Product, Quotient, Power, Negative, Compare, Cong, Ncong, Bound, FormulaTree, FormulaTrees, terms_of, formulas_of}
+use Rattle.qe_syntax.specs.declared.tree.InnerCommand as commands
+use Rattle.qe_syntax.specs.Trees.{TermTree, TermTrees, Number, Named, Sum, Product, Quotient, Power, Negative, Compare, Cong, Ncong, Bound, FormulaTree, FormulaTrees, terms_of}
+use Rattle.qe_syntax.specs.Holes.{Nnf, Pnf, Dnf, Cnf, Simpl, Qe, Nest, Nests, Holed, whole, over, over_both, all_of, nested, nested_under, computed}
 
 -- one layer of a term, with the trees of its parts in their places
 abbrev pub term_step : layer.Term-F TermTree TermTrees → TermTree
@@ -31,31 +34,69 @@ term_tree = code.fold-Term TermTree TermTrees term_step terms_step
 unfoldable pub term_trees : codes.Terms → TermTrees
 term_trees = codes.fold-Terms TermTree TermTrees term_step terms_step
 
--- one layer of a formula, with the trees of its parts in their places
-abbrev pub formula_step : open_formula.Formula-F FormulaTree FormulaTrees → FormulaTree
-formula_step open_formula.True = plain.Yes
-formula_step open_formula.False = plain.No
-formula_step (open_formula.Compare rel s t) = plain.One (Compare rel (term_tree s.value) (term_tree t.value))
-formula_step (open_formula.Cong s t m) = plain.One (Cong (term_tree s.value) (term_tree t.value) (term_tree m.value))
-formula_step (open_formula.Ncong s t m) = plain.One (Ncong (term_tree s.value) (term_tree t.value) (term_tree m.value))
-formula_step (open_formula.Not f) = plain.Not f.value
-formula_step (open_formula.And fs) = plain.And fs
-formula_step (open_formula.Or fs) = plain.Or fs
-formula_step (open_formula.Impl f g) = plain.Impl f.value g.value
-formula_step (open_formula.Repl f g) = plain.Repl f.value g.value
-formula_step (open_formula.Equiv f g) = plain.Equiv f.value g.value
-formula_step (open_formula.Ex x f) = plain.Ex x f.value
-formula_step (open_formula.All x f) = plain.All x f.value
-formula_step (open_formula.Named x) = plain.One (Bound x)
+-- one layer of a formula, with what its parts are in their places
+abbrev pub formula_step : open_formula.Formula-F (Holed FormulaTree) Nest (Holed FormulaTrees) → Holed FormulaTree
+formula_step open_formula.True = whole plain.Yes
+formula_step open_formula.False = whole plain.No
+formula_step (open_formula.Compare rel s t) = whole (plain.One (Compare rel (term_tree s.value) (term_tree t.value)))
+formula_step (open_formula.Cong s t m) = whole (plain.One (Cong (term_tree s.value) (term_tree t.value) (term_tree m.value)))
+formula_step (open_formula.Ncong s t m) = whole (plain.One (Ncong (term_tree s.value) (term_tree t.value) (term_tree m.value)))
+formula_step (open_formula.Not f) = over plain.Not f.value
+formula_step (open_formula.And fs) = over plain.And fs
+formula_step (open_formula.Or fs) = over plain.Or fs
+formula_step (open_formula.Impl f g) = over_both plain.Impl f.value g.value
+formula_step (open_formula.Repl f g) = over_both plain.Repl f.value g.value
+formula_step (open_formula.Equiv f g) = over_both plain.Equiv f.value g.value
+formula_step (open_formula.Ex x f) = over (plain.Ex x) f.value
+formula_step (open_formula.All x f) = over (plain.All x) f.value
+formula_step (open_formula.Named x) = whole (plain.One (Bound x))
+formula_step (open_formula.Computed c) = computed c.value
 
--- the trees of a list whose members have theirs in their places
-abbrev pub formulas_step : open_formula.Formulas-F FormulaTree FormulaTrees → FormulaTrees
-formulas_step fs = formulas_of fs.list.items
+-- a list whose members have what they are in their places
+abbrev pub formulas_step : open_formula.Formulas-F (Holed FormulaTree) Nest (Holed FormulaTrees) → Holed FormulaTrees
+formulas_step fs = all_of fs.list.items
 
--- the tree of a formula
+-- a command whose formula and atoms have what they are in their places
+abbrev pub command_step : open_formula.InnerCommand-F (Holed FormulaTree) Nest (Holed FormulaTrees) → Nest
+command_step (open_formula.Nnf f) = nested Nnf f
+command_step (open_formula.Pnf f) = nested Pnf f
+command_step (open_formula.Dnf f) = nested Dnf f
+command_step (open_formula.Cnf f) = nested Cnf f
+command_step (open_formula.Simpl f given) = nested_under Simpl f given
+command_step (open_formula.Qe f given) = nested_under Qe f given
+
+-- what a formula is: its tree with holes, the commands in these, and the tree with names in them
+unfoldable pub whole_formula : written.Formula → Holed FormulaTree
+whole_formula = written.fold-Formula (Holed FormulaTree) Nest (Holed FormulaTrees) formula_step command_step formulas_step
+
+-- what the formulas of a list are
+unfoldable pub whole_formulas : writtens.Formulas → Holed FormulaTrees
+whole_formulas = writtens.fold-Formulas (Holed FormulaTree) Nest (Holed FormulaTrees) formula_step command_step formulas_step
+
+-- a command, and those inside it
+unfoldable pub whole_command : commands.InnerCommand → Nest
+whole_command = commands.fold-InnerCommand (Holed FormulaTree) Nest (Holed FormulaTrees) formula_step command_step formulas_step
+
+-- the tree of a formula, with a hole at each command
 unfoldable pub formula_tree : written.Formula → FormulaTree
-formula_tree = written.fold-Formula FormulaTree FormulaTrees formula_step formulas_step
+formula_tree f = (whole_formula f).tree
 
 -- the trees of a list of formulas
 unfoldable pub formula_trees : writtens.Formulas → FormulaTrees
-formula_trees = writtens.fold-Formulas FormulaTree FormulaTrees formula_step formulas_step
+formula_trees fs = (whole_formulas fs).tree
+
+-- the commands inside a formula
+unfoldable pub inner_of : written.Formula → Nests
+inner_of f = (whole_formula f).inner
+
+-- the commands inside the formulas of a list
+unfoldable pub inners_of : writtens.Formulas → Nests
+inners_of fs = (whole_formulas fs).inner
+
+-- the tree of a formula, with names in its holes: those of the numbers from one on
+unfoldable pub named_tree : ℕ → written.Formula → FormulaTree
+named_tree k f = (whole_formula f).named k
+
+-- the trees of a list of formulas, with such names
+unfoldable pub named_trees : ℕ → writtens.Formulas → FormulaTrees
+named_trees k fs = (whole_formulas fs).named k

@@ -1,5 +1,6 @@
 pub mod Names
 pub mod Trees
+pub mod Holes
 pub mod CodeTrees
 pub mod Proper
 pub mod Point

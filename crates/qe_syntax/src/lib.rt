@@ -1,6 +1,7 @@
 //! What a script says: terms, formulas and points as plain trees, and what they mean.
 #![tactic(auto)]
 
+mod commands;
 mod entries;
 mod laws;
 mod point;
@@ -15,9 +16,9 @@ pub use laws::one_point;
 pub use point::{Point, PointFault};
 pub use qe_names::Name;
 pub use tree::{
-    Formula, Formulas, Literal, Relation, Term, Terms, comparison, congruence, equivalence,
-    existential, implication, incongruence, negation, negative, power, quotient, replication,
-    universal,
+    Formula, Formulas, InnerCommand, Literal, Relation, Term, Terms, answered, comparison,
+    congruence, equivalence, existential, implication, incongruence, negation, negative, power,
+    quotient, replication, universal,
 };
 pub use truth::truth_at;
 pub use value::{EvalError, value_at};

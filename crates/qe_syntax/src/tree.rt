@@ -1,6 +1,7 @@
 ghost use Rattle.std.specs.Prelude.{◌≡◌, map, IfOk};
-ghost use Rattle.qe_syntax.specs.Trees.{terms_of, formulas_of, Quotient, Power, Negative, Compare, Cong, Ncong};
-ghost use Rattle.qe_syntax.specs.CodeTrees.{term_tree, term_trees, formula_tree, formula_trees};
+ghost use Rattle.qe_syntax.specs.Trees.{terms_of, Quotient, Power, Negative, Compare, Cong, Ncong};
+ghost use Rattle.qe_syntax.specs.Holes.{whole, over, over_both, all_of, computed};
+ghost use Rattle.qe_syntax.specs.CodeTrees.{term_tree, term_trees, whole_formula, whole_formulas, whole_command};
 ghost use Rattle.formula_meaning.specs.Formula.{One, Not, Impl, Repl, Equiv, Ex, All};
 
 use qe_names::Name;
@@ -105,11 +106,14 @@ pub enum Formula {
     Ex(Name, Box<Formula>),
     All(Name, Box<Formula>),
     Named(Name),
+    /// The answer of a command.
+    Computed(Box<InnerCommand>),
 }
 
 // A loop down the part on the right, since a quantifier over many names is a long chain. What else a formula has is
 // freed by recursion.
 impl Drop for Formula {
+    #[cycle(drop)]
     fn drop(mut self) {
         'chain: loop {
             match self {
@@ -118,6 +122,7 @@ impl Drop for Formula {
                 Formula::Cong(_left, _right, _modulus) | Formula::Ncong(_left, _right, _modulus) =>
                     return,
                 Formula::And(_members) | Formula::Or(_members) => return,
+                Formula::Computed(_command) => return,
                 Formula::Not(inner) | Formula::Ex(_, inner) | Formula::All(_, inner) => {
                     self = Box::into_inner(inner);
                 }
@@ -138,39 +143,51 @@ pub struct Formulas {
 
 impl Formulas {
     /// The list of these formulas. It takes no memory.
-    #[tactic(auto, using(crate::proofs::TreeEquations::trees))]
+    #[tactic(auto, using(crate::proofs::TreeEquations::trees, crate::proofs::TreeEquations::wholes))]
     pub fn of(list: Vec<Formula>) -> Formulas
-        ensures { formula_trees result ≡ formulas_of (map formula_tree list.items) }
+        ensures { whole_formulas result ≡ all_of (map whole_formula list.items) }
     {
         Formulas { list }
     }
 
     /// The formulas of the list, in their order. It takes no memory.
-    #[tactic(auto, using(crate::proofs::TreeEquations::trees))]
+    #[tactic(auto, using(crate::proofs::TreeEquations::trees, crate::proofs::TreeEquations::wholes))]
     pub fn items(&self) -> &[Formula]
-        ensures { formula_trees self.now ≡ formulas_of (map formula_tree result.now) }
+        ensures { whole_formulas self.now ≡ all_of (map whole_formula result.now) }
     {
         &self.list
     }
 }
 
+/// A command that stands inside a formula, with the formula that it is about, and the atoms that `rlsimpl` and `rlqe` may assume.
+#[derive(Drop)]
+#[cycle(formula)]
+pub enum InnerCommand {
+    Nnf(Formula),
+    Pnf(Formula),
+    Dnf(Formula),
+    Cnf(Formula),
+    Simpl(Formula, Formulas),
+    Qe(Formula, Formulas),
+}
+
 /// The formula with `not` before it.
-#[tactic(auto, using(crate::proofs::TreeEquations::trees))]
+#[tactic(auto, using(crate::proofs::TreeEquations::trees, crate::proofs::TreeEquations::wholes))]
 pub fn negation(alloc: Global, formula: Formula) -> Result<Formula, AllocError>
-    ensures { IfOk result (λ f. formula_tree f ≡ Not (formula_tree formula)) }
+    ensures { IfOk result (λ f. whole_formula f ≡ over Not (whole_formula formula)) }
 {
     Ok(Formula::Not(Box::new(alloc, formula)?))
 }
 
 /// The comparison of two terms.
-#[tactic(auto, using(crate::proofs::TreeEquations::trees))]
+#[tactic(auto, using(crate::proofs::TreeEquations::trees, crate::proofs::TreeEquations::wholes))]
 pub fn comparison(
     alloc: Global,
     relation: Relation,
     left: Term,
     right: Term,
 ) -> Result<Formula, AllocError>
-    ensures { IfOk result (λ f. formula_tree f ≡ One (Compare relation (term_tree left) (term_tree right))) }
+    ensures { IfOk result (λ f. whole_formula f ≡ whole (One (Compare relation (term_tree left) (term_tree right)))) }
 {
     let left = Box::new(alloc, left)?;
     let right = Box::new(alloc, right)?;
@@ -178,14 +195,14 @@ pub fn comparison(
 }
 
 /// The congruence of two terms modulo a third: `cong(left, right, modulus)`.
-#[tactic(auto, using(crate::proofs::TreeEquations::trees))]
+#[tactic(auto, using(crate::proofs::TreeEquations::trees, crate::proofs::TreeEquations::wholes))]
 pub fn congruence(
     alloc: Global,
     left: Term,
     right: Term,
     modulus: Term,
 ) -> Result<Formula, AllocError>
-    ensures { IfOk result (λ f. formula_tree f ≡ One (Cong (term_tree left) (term_tree right) (term_tree modulus))) }
+    ensures { IfOk result (λ f. whole_formula f ≡ whole (One (Cong (term_tree left) (term_tree right) (term_tree modulus)))) }
 {
     let left = Box::new(alloc, left)?;
     let right = Box::new(alloc, right)?;
@@ -194,14 +211,14 @@ pub fn congruence(
 }
 
 /// The negated congruence of two terms modulo a third: `ncong(left, right, modulus)`.
-#[tactic(auto, using(crate::proofs::TreeEquations::trees))]
+#[tactic(auto, using(crate::proofs::TreeEquations::trees, crate::proofs::TreeEquations::wholes))]
 pub fn incongruence(
     alloc: Global,
     left: Term,
     right: Term,
     modulus: Term,
 ) -> Result<Formula, AllocError>
-    ensures { IfOk result (λ f. formula_tree f ≡ One (Ncong (term_tree left) (term_tree right) (term_tree modulus))) }
+    ensures { IfOk result (λ f. whole_formula f ≡ whole (One (Ncong (term_tree left) (term_tree right) (term_tree modulus)))) }
 {
     let left = Box::new(alloc, left)?;
     let right = Box::new(alloc, right)?;
@@ -210,13 +227,13 @@ pub fn incongruence(
 }
 
 /// The formula `premise impl conclusion`.
-#[tactic(auto, using(crate::proofs::TreeEquations::trees))]
+#[tactic(auto, using(crate::proofs::TreeEquations::trees, crate::proofs::TreeEquations::wholes))]
 pub fn implication(
     alloc: Global,
     premise: Formula,
     conclusion: Formula,
 ) -> Result<Formula, AllocError>
-    ensures { IfOk result (λ f. formula_tree f ≡ Impl (formula_tree premise) (formula_tree conclusion)) }
+    ensures { IfOk result (λ f. whole_formula f ≡ over_both Impl (whole_formula premise) (whole_formula conclusion)) }
 {
     let premise = Box::new(alloc, premise)?;
     let conclusion = Box::new(alloc, conclusion)?;
@@ -224,13 +241,13 @@ pub fn implication(
 }
 
 /// The formula `conclusion repl premise`, an implication from right to left.
-#[tactic(auto, using(crate::proofs::TreeEquations::trees))]
+#[tactic(auto, using(crate::proofs::TreeEquations::trees, crate::proofs::TreeEquations::wholes))]
 pub fn replication(
     alloc: Global,
     conclusion: Formula,
     premise: Formula,
 ) -> Result<Formula, AllocError>
-    ensures { IfOk result (λ f. formula_tree f ≡ Repl (formula_tree conclusion) (formula_tree premise)) }
+    ensures { IfOk result (λ f. whole_formula f ≡ over_both Repl (whole_formula conclusion) (whole_formula premise)) }
 {
     let conclusion = Box::new(alloc, conclusion)?;
     let premise = Box::new(alloc, premise)?;
@@ -238,9 +255,9 @@ pub fn replication(
 }
 
 /// The formula `left equiv right`.
-#[tactic(auto, using(crate::proofs::TreeEquations::trees))]
+#[tactic(auto, using(crate::proofs::TreeEquations::trees, crate::proofs::TreeEquations::wholes))]
 pub fn equivalence(alloc: Global, left: Formula, right: Formula) -> Result<Formula, AllocError>
-    ensures { IfOk result (λ f. formula_tree f ≡ Equiv (formula_tree left) (formula_tree right)) }
+    ensures { IfOk result (λ f. whole_formula f ≡ over_both Equiv (whole_formula left) (whole_formula right)) }
 {
     let left = Box::new(alloc, left)?;
     let right = Box::new(alloc, right)?;
@@ -248,17 +265,25 @@ pub fn equivalence(alloc: Global, left: Formula, right: Formula) -> Result<Formu
 }
 
 /// The formula `ex(bound, formula)`.
-#[tactic(auto, using(crate::proofs::TreeEquations::trees))]
+#[tactic(auto, using(crate::proofs::TreeEquations::trees, crate::proofs::TreeEquations::wholes))]
 pub fn existential(alloc: Global, bound: Name, formula: Formula) -> Result<Formula, AllocError>
-    ensures { IfOk result (λ f. formula_tree f ≡ Ex bound (formula_tree formula)) }
+    ensures { IfOk result (λ f. whole_formula f ≡ over (Ex bound) (whole_formula formula)) }
 {
     Ok(Formula::Ex(bound, Box::new(alloc, formula)?))
 }
 
 /// The formula `all(bound, formula)`.
-#[tactic(auto, using(crate::proofs::TreeEquations::trees))]
+#[tactic(auto, using(crate::proofs::TreeEquations::trees, crate::proofs::TreeEquations::wholes))]
 pub fn universal(alloc: Global, bound: Name, formula: Formula) -> Result<Formula, AllocError>
-    ensures { IfOk result (λ f. formula_tree f ≡ All bound (formula_tree formula)) }
+    ensures { IfOk result (λ f. whole_formula f ≡ over (All bound) (whole_formula formula)) }
 {
     Ok(Formula::All(bound, Box::new(alloc, formula)?))
+}
+
+/// The formula that a command answers.
+#[tactic(auto, using(crate::proofs::TreeEquations::trees, crate::proofs::TreeEquations::wholes))]
+pub fn answered(alloc: Global, command: InnerCommand) -> Result<Formula, AllocError>
+    ensures { IfOk result (λ f. whole_formula f ≡ computed (whole_command command)) }
+{
+    Ok(Formula::Computed(Box::new(alloc, command)?))
 }

@@ -120,7 +120,9 @@ fn formula_truth(formula: &Formula, point: &Point) -> Result<bool, EvalError>
             let right = formula_truth(right, point)?;
             Ok(left == right)
         }
-        Formula::Ex(..) | Formula::All(..) | Formula::Named(..) => unreachable!(),
+        Formula::Ex(..) | Formula::All(..) | Formula::Named(..) | Formula::Computed(..) => {
+            unreachable!()
+        }
     }
 }
 

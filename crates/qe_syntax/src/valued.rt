@@ -143,7 +143,7 @@ fn in_matrix(
     ensures kept { OnOk result (IsSameSet (slice_cmp nat_cmp) names.old names.new) }
 {
     match formula {
-        Formula::True | Formula::False | Formula::Named(_) => Ok(true),
+        Formula::True | Formula::False | Formula::Named(_) | Formula::Computed(_) => Ok(true),
         Formula::Compare(_, left, right) => Ok(in_term(left, names) && in_term(right, names)),
         Formula::Cong(left, right, modulus) | Formula::Ncong(left, right, modulus) => {
             Ok(in_term(left, names) && in_term(right, names) && in_term(modulus, names))

@@ -12,3 +12,4 @@ pub mod ResolvedNames
 pub mod MissingForms
 pub mod LowestForms
 pub mod ResolvedHeight
+pub mod AnswerNames

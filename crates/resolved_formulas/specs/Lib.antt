@@ -8,3 +8,4 @@ pub mod Resolving
 pub mod NamesAfter
 pub mod Causes
 pub mod Accepted
+pub mod Answers

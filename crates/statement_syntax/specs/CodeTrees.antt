@@ -1,40 +1,49 @@
 -- The trees that the code's commands, actions and statements stand for.
-use Rattle.qe_syntax.specs.CodeTrees.{term_tree, formula_tree, formula_trees}
+use Rattle.qe_syntax.specs.CodeTrees.{term_tree, whole_formula, whole_formulas}
 use Rattle.statement_syntax.specs.declared.statement.Command as code
 use Rattle.statement_syntax.specs.declared.statement.Command.TheVariants as command
 use Rattle.statement_syntax.specs.declared.statement.Action as acts
 use Rattle.statement_syntax.specs.declared.statement.Action.TheVariants as action
 use Rattle.statement_syntax.specs.declared.statement.Statement as whole
+use Rattle.statement_syntax.specs.Inner.{WithInner, bare, around, about, about_all, about_under}
 use Rattle.statement_syntax.specs.Statements.{CommandTree, Echo, Nnf, Pnf, Dnf, Cnf, Simpl, Qe, Qea, Holds, Sample, Grid, Certify, Check, Least, ActionTree, Empty, Ignored, Finish, Choose, Say, Assign, Assume, Retract, StatementTree}
+
+-- a command, and those inside its formulas
+abbrev pub whole_command : code.Command → WithInner CommandTree
+whole_command (command.Echo f) = about Echo (whole_formula f)
+whole_command (command.Nnf f) = about Nnf (whole_formula f)
+whole_command (command.Pnf f) = about Pnf (whole_formula f)
+whole_command (command.Dnf f) = about Dnf (whole_formula f)
+whole_command (command.Cnf f) = about Cnf (whole_formula f)
+whole_command (command.Simpl f given) = about_under Simpl (whole_formula f) (whole_formulas given)
+whole_command (command.Qe f given) = about_under Qe (whole_formula f) (whole_formulas given)
+whole_command (command.Qea f given) = about_under Qea (whole_formula f) (whole_formulas given)
+whole_command (command.Holds f entries) = about (λ t. Holds t entries) (whole_formula f)
+whole_command (command.Sample f entries) = about (λ t. Sample t entries) (whole_formula f)
+whole_command (command.Grid f axes) = about (λ t. Grid t axes) (whole_formula f)
+whole_command (command.Certify constraints) = about_all Certify (whole_formulas constraints)
+whole_command (command.Check constraints multipliers) = about_all (λ ts. Check ts multipliers) (whole_formulas constraints)
+whole_command (command.Least constraints target) = about_all (λ ts. Least ts (term_tree target)) (whole_formulas constraints)
 
 -- the tree of a command
 abbrev pub command_tree : code.Command → CommandTree
-command_tree (command.Echo f) = Echo (formula_tree f)
-command_tree (command.Nnf f) = Nnf (formula_tree f)
-command_tree (command.Pnf f) = Pnf (formula_tree f)
-command_tree (command.Dnf f) = Dnf (formula_tree f)
-command_tree (command.Cnf f) = Cnf (formula_tree f)
-command_tree (command.Simpl f given) = Simpl (formula_tree f) (formula_trees given)
-command_tree (command.Qe f given) = Qe (formula_tree f) (formula_trees given)
-command_tree (command.Qea f given) = Qea (formula_tree f) (formula_trees given)
-command_tree (command.Holds f entries) = Holds (formula_tree f) entries
-command_tree (command.Sample f entries) = Sample (formula_tree f) entries
-command_tree (command.Grid f axes) = Grid (formula_tree f) axes
-command_tree (command.Certify constraints) = Certify (formula_trees constraints)
-command_tree (command.Check constraints multipliers) = Check (formula_trees constraints) multipliers
-command_tree (command.Least constraints target) = Least (formula_trees constraints) (term_tree target)
+command_tree c = (whole_command c).tree
+
+-- an action, and the commands inside its formulas
+abbrev pub whole_action : acts.Action → WithInner ActionTree
+whole_action action.Empty = bare Empty
+whole_action action.Ignored = bare Ignored
+whole_action action.Finish = bare Finish
+whole_action (action.Choose setting) = bare (Choose setting)
+whole_action (action.Say c) = around Say (whole_command c.value)
+whole_action (action.Assign x c) = around (Assign x) (whole_command c.value)
+whole_action (action.Assume given) = about_all Assume (whole_formulas given)
+whole_action action.Retract = bare Retract
 
 -- the tree of an action
 abbrev pub action_tree : acts.Action → ActionTree
-action_tree action.Empty = Empty
-action_tree action.Ignored = Ignored
-action_tree action.Finish = Finish
-action_tree (action.Choose setting) = Choose setting
-action_tree (action.Say c) = Say (command_tree c.value)
-action_tree (action.Assign x c) = Assign x (command_tree c.value)
-action_tree (action.Assume given) = Assume (formula_trees given)
-action_tree action.Retract = Retract
+action_tree a = (whole_action a).tree
 
 -- the tree of a statement
 abbrev pub statement_tree : whole.Statement → StatementTree
-statement_tree s = record { action = action_tree s.action; printed = s.printed }
+statement_tree s = record { action = action_tree s.action; printed = s.printed; inner = (whole_action s.action).inner }

@@ -2,6 +2,7 @@
 use Rattle.std.specs.Prelude.{Bool, List, ℕ}
 use Rattle.qe_syntax.specs.declared.tree.Literal.{Literal}
 use Rattle.qe_syntax.specs.Trees.{TermTree, FormulaTree, FormulaTrees}
+use Rattle.qe_syntax.specs.Holes.{Nests}
 use Rattle.statement_syntax.specs.declared.statement.Setting.{Setting}
 use Rattle.statement_syntax.specs.declared.grid.GridAxis.{GridAxis}
 use Rattle.qe_syntax.specs.declared.entries.PointEntry.{PointEntry}
@@ -39,7 +40,8 @@ pub data ActionTree : Type 0 where
   Assume : FormulaTrees → ActionTree
   Retract : ActionTree
 
--- a statement: what it does, and whether its line is printed
+-- A statement: what it does, whether its line is printed, and the commands inside its formulas, whose answers have names in these.
 pub record StatementTree : Type 0 where
   pub action : ActionTree
   pub printed : Bool
+  pub inner : Nests

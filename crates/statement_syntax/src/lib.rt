@@ -2,6 +2,7 @@
 #![tactic(auto)]
 
 mod grid;
+mod inner;
 mod literals;
 mod statement;
 

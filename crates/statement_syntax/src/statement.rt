@@ -1,6 +1,11 @@
+ghost use Rattle.std.specs.Prelude.{◌≡◌};
+ghost use Rattle.qe_syntax.specs.CodeTrees.{whole_command as inner_whole};
+ghost use Rattle.statement_syntax.specs.Inner.{command_in};
+ghost use Rattle.statement_syntax.specs.CodeTrees.{whole_command};
+
 use crate::grid::GridAxes;
 use crate::literals::Literals;
-use qe_syntax::{Entries, Formula, Formulas, Name, Term};
+use qe_syntax::{Entries, Formula, Formulas, InnerCommand, Name, Term};
 
 /// The two theories as a script names them.
 #[derive(Clone, Copy, Debug, PartialEq, Eq)]
@@ -29,6 +34,23 @@ pub enum Command {
     Check(Formulas, Literals),
     /// Asks for the least value of the term under the constraints.
     Least(Formulas, Term),
+}
+
+impl Command {
+    /// The command that stands inside a formula, by itself. It takes no memory.
+    #[tactic(auto, using(qe_syntax::proofs::TreeEquations::wholes))]
+    pub fn of_inner(command: InnerCommand) -> Command
+        ensures { whole_command result ≡ command_in (inner_whole command) }
+    {
+        match command {
+            InnerCommand::Nnf(formula) => Command::Nnf(formula),
+            InnerCommand::Pnf(formula) => Command::Pnf(formula),
+            InnerCommand::Dnf(formula) => Command::Dnf(formula),
+            InnerCommand::Cnf(formula) => Command::Cnf(formula),
+            InnerCommand::Simpl(formula, given) => Command::Simpl(formula, given),
+            InnerCommand::Qe(formula, given) => Command::Qe(formula, given),
+        }
+    }
 }
 
 /// What a statement does. A command is kept in a box, since a formula is large.

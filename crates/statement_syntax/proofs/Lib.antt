@@ -1,0 +1,3 @@
+pub mod InnerCommands
+pub mod Plain
+pub mod Constrained
