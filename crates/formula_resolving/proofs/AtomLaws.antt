@@ -72,32 +72,31 @@ module _ {Id : Type 0} (is_id : Id → Type 0) (tree : Id → Tree) where
       go true f r = subst is_id (some_same f) h.0
       go false f r = r f
 
-  module _ (bound : List (List ℕ × Id)) (x : List ℕ) (c : Context) (names : List (List ℕ)) where
-    pub name_there : (id : Id) (k : Causes) (h : ℕ) → AreIds is_id bound → Some id ≡ bound_to bound x → k ≡ no_causes → h ≡ told (height (tree id))
-        → IsPart c (trees_bound tree bound) names is_id tree (One (Bound x)) (record { causes = k; height = h; id = Some id })
-    name_there id k h ids e none high =
-        let t : bound_to (trees_bound tree bound) x ≡ Some (tree id) = bound_tree tree bound x ∙ ap (option_map tree) (sym e) in record {
-          causes = subst (λ (j : Causes). (d : StaticError) → (flag j d ≡ true) ↔ StandsIn c (trees_bound tree bound) (place names) d (Bound x)) (sym none)
-              (name_told c (trees_bound tree bound) (place names) x false (never _ (λ n. let m = sym t ∙ n in absurd (cc))));
-          built = record {
-            height = high ∙ ap (λ o. told (height (unwrap_or o Yes))) (sym t);
-            made = λ i f. subst (λ (j : Id). IsMade is_id tree j (unwrap_or (bound_to (trees_bound tree bound) x) No)) (some_same f)
-                (record { is = bound_id bound x id ids (sym e); same = ap (λ o. unwrap_or o No) (sym t) });
-            left_out = λ f. absurd (cc);
-          };
-        }
+  module _ (bound : BoundTrees) (x : List ℕ) (c : Context) (names : List (List ℕ)) where
+    -- the name stands for the formula of an id
+    pub name_there : (id : Id) (k : Causes) (h : ℕ) → is_id id → bound_to bound x ≡ Some (tree id) → k ≡ no_causes → h ≡ told (height (tree id))
+        → IsPart c bound names is_id tree (One (Bound x)) (record { causes = k; height = h; id = Some id })
+    name_there id k h is t none high = record {
+      causes = subst (λ (j : Causes). (d : StaticError) → (flag j d ≡ true) ↔ StandsIn c bound (place names) d (Bound x)) (sym none)
+          (name_told c bound (place names) x false (never _ (λ n. let m = sym t ∙ n in absurd (cc))));
+      built = record {
+        height = high ∙ ap (λ o. told (height (unwrap_or o Yes))) (sym t);
+        made = λ i f. subst (λ (j : Id). IsMade is_id tree j (unwrap_or (bound_to bound x) No)) (some_same f) (record { is = is; same = ap (λ o. unwrap_or o No) (sym t) });
+        left_out = λ f. absurd (cc);
+      };
+    }
 
-    pub name_away : (k : Causes) → None ≡ bound_to bound x → k ≡ record no_causes { unbound = true } → IsPart c (trees_bound tree bound) names is_id tree (One (Bound x)) (record { causes = k; height = 1; id = None })
-    name_away k e one =
-        let t : bound_to (trees_bound tree bound) x ≡ None = bound_tree tree bound x ∙ ap (option_map tree) (sym e) in record {
-          causes = subst (λ (j : Causes). (d : StaticError) → (flag j d ≡ true) ↔ StandsIn c (trees_bound tree bound) (place names) d (Bound x)) (sym one)
-              (name_told c (trees_bound tree bound) (place names) x true (λ i. t, λ i. refl));
-          built = record {
-            height = ap (λ o. told (height (unwrap_or o Yes))) (sym t);
-            made = λ i f. absurd (cc);
-            left_out = λ f. inl (Unbound, ap (λ j. flag j Unbound) one);
-          };
-        }
+    -- nothing is bound to the name
+    pub name_away : (k : Causes) → bound_to bound x ≡ None → k ≡ record no_causes { unbound = true } → IsPart c bound names is_id tree (One (Bound x)) (record { causes = k; height = 1; id = None })
+    name_away k t one = record {
+      causes = subst (λ (j : Causes). (d : StaticError) → (flag j d ≡ true) ↔ StandsIn c bound (place names) d (Bound x)) (sym one)
+          (name_told c bound (place names) x true (λ i. t, λ i. refl));
+      built = record {
+        height = ap (λ o. told (height (unwrap_or o Yes))) (sym t);
+        made = λ i f. absurd (cc);
+        left_out = λ f. inl (Unbound, ap (λ j. flag j Unbound) one);
+      };
+    }
 
 -- ---- comparisons and congruences
 

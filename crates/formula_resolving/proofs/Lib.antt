@@ -5,6 +5,9 @@ pub mod Written
 pub mod Openings
 pub mod PartLaws
 pub mod AtomLaws
+pub mod NamedTrees
+pub mod HoleNames
 pub mod WrittenParts
 pub mod Order
 pub mod Refusing
+pub mod Answered

@@ -1,6 +1,6 @@
 -- What is read of a formula follows from what is read of its parts.
 use Rattle.std.proofs.Common.{◌≡◌, ◌⊎◌, inl, inr, ⊎_elim, ℕ, suc, ◌<◌, max, true, false, List, [], ◌∷◌, ◌++◌, Option, Some, None, map, refl, arith, subst, sym, ap, ◌∙◌}
-use Rattle.std.specs.Prelude.{◌↔◌, Result, Ok, Err, IfOk}
+use Rattle.std.specs.Prelude.{◌↔◌, Result, Ok, Err, IfOk, OnOk}
 use Rattle.std.specs.List.{AllByRecursion}
 use Rattle.std.proofs.lemmas.List.{map-append}
 use Rattle.std.specs.Option.{option_to_list}
@@ -85,11 +85,11 @@ module _ {Id : Type 0} (P : Id → Type 0) (t : Id → Tree) (Q : Id → Type 0)
   pub made_stays : (id : Id) (f : Tree) → IsMade P t id f → IsMade Q u id f
   made_stays id f m = record { is = k.is id m.is; same = k.same id m.is ∙ m.same }
 
-  all_stay : (ids : List Id) → AllByRecursion P ids → AllByRecursion Q ids
+  pub all_stay : (ids : List Id) → AllByRecursion P ids → AllByRecursion Q ids
   all_stay [] h = tt
   all_stay (id ∷ ids) h = (k.is id h.0, all_stay ids h.1)
 
-  trees_stay : (ids : List Id) → AllByRecursion P ids → map u ids ≡ map t ids
+  pub trees_stay : (ids : List Id) → AllByRecursion P ids → map u ids ≡ map t ids
   trees_stay [] h = refl
   trees_stay (id ∷ ids) h = λ i. k.same id h.0 i ∷ trees_stay ids h.1 i
 
@@ -326,6 +326,17 @@ finished_as {Id} {is_id} {old} {tree} {j} {k} {m} {n} {s} {t} {r} w a b d =
 pub ok_map : {T E : Type 0} {P Q : T → Type 0} (r : Result T E) → ((x : T) → P x → Q x) → IfOk r P → IfOk r Q
 ok_map (Ok x) f h = f x h
 ok_map (Err e) f h = h
+
+-- the part of an equal formula, under equal trees
+pub part_as : {Id : Type 0} {c : Context} {bound : BoundTrees} {names : List (List ℕ)} {is_id : Id → Type 0} {tree : Id → Tree} {f g : FormulaTree} {p : Part Id} → f ≡ g → IsPart c bound names is_id tree g p → IsPart c bound names is_id tree f p
+part_as {Id} {c} {bound} {names} {is_id} {tree} {f} {g} {p} e h = subst (λ (x : FormulaTree). IsPart c bound names is_id tree x p) (sym e) h
+
+pub part_under : {Id : Type 0} {c : Context} {a b : BoundTrees} {names : List (List ℕ)} {is_id : Id → Type 0} {tree : Id → Tree} {f : FormulaTree} {p : Part Id} → a ≡ b → IsPart c a names is_id tree f p → IsPart c b names is_id tree f p
+part_under {Id} {c} {a} {b} {names} {is_id} {tree} {f} {p} e h = subst (λ (x : BoundTrees). IsPart c x names is_id tree f p) e h
+
+pub on_ok : {T E P : Type 0} (r : Result T E) → P → OnOk r P
+on_ok (Ok x) h = h
+on_ok (Err e) h = tt
 
 -- what was made is an id
 pub finished_id : {Id : Type 0} {is_id : Id → Type 0} {old tree : Id → Tree} {k : Causes} {h : ℕ} {s : Option (Shape Id)} {r : Part Id} → IsFinished is_id old tree k h s r → (id : Id) → r.id ≡ Some id → is_id id

@@ -1,6 +1,6 @@
 -- The first cause that is met is the first that applies.
-use Rattle.std.proofs.Common.{◌≡◌, ◌⊎◌, inl, inr, ⊎_elim, ℕ, ◌<◌, Bool, true, false, ◌||◌, List, [], ◌∷◌, ◌++◌, Option, Some, None, refl, arith, subst, sym, ap, ◌∙◌}
-use Rattle.std.specs.Prelude.{◌↔◌, is_some, nat_lt, option_map}
+use Rattle.std.proofs.Common.{◌≡◌, ◌⊎◌, inl, inr, ⊎_elim, ℕ, ◌<◌, Bool, true, false, ◌||◌, List, [], ◌∷◌, ◌++◌, Option, Some, None, refl, arith, subst, sym, ◌∙◌}
+use Rattle.std.specs.Prelude.{◌↔◌, is_some, nat_lt}
 use Rattle.std.specs.List.{list_any}
 use Rattle.std.proofs.lemmas.List.Folds.{list_any-append}
 use Rattle.formula_meaning.specs.Context.{Context, Fields, Integers}
@@ -15,7 +15,7 @@ use Rattle.resolved_formulas.specs.Somewhere.{Somewhere, SomewhereIn, SomeAtom}
 use Rattle.resolved_formulas.specs.Causes as cause
 use Rattle.resolved_formulas.specs.Causes.{most_height, height_in_place, IsBound, MentionsBound, IsCongruence, SomeTerm, HasPast, PassesInReading}
 use Rattle.resolved_formulas.specs.Accepted.{IsAccepted}
-use Rattle.resolved_formulas.specs.Resolving.{variables_of, variables_in, atom_variables, formula_variables, all_variables}
+use Rattle.resolved_formulas.specs.Resolving.{BoundTrees, variables_of, variables_in, atom_variables, formula_variables, all_variables}
 use Rattle.formula_tree.specs.Names.{place}
 use Rattle.resolved_formulas.specs.NamesAfter.{names_after}
 use Rattle.formula_resolving.specs.declared.error.StaticError.{StaticError}
@@ -23,14 +23,12 @@ use Rattle.formula_resolving.specs.declared.error.StaticError.TheVariants.{Unbou
 use Rattle.formula_resolving.specs.declared.causes.Causes.{Causes}
 use Rattle.formula_resolving.specs.Refusals.{before, Applies, IsFirst}
 use Rattle.formula_resolving.specs.FirstCause.{IsFirstCause}
-use Rattle.formula_resolving.specs.BoundIds.{trees_bound}
 use Rattle.formula_resolving.specs.Numbering.{some_bound}
 use Rattle.formula_resolving.specs.MetCauses.{is_met, IsFirstOf, CongruenceIn}
 use Rattle.formula_resolving.specs.Heights.{told}
 use Rattle.formula_resolving.specs.Parts.{AreTold}
 use Rattle.formula_resolving.proofs.Order.{no_memory}
 use Rattle.formula_resolving.proofs.FirstCause.{or_true}
-use Rattle.formula_resolving.proofs.AtomLaws.{bound_tree}
 
 -- ---- bound names as variables
 
@@ -107,20 +105,20 @@ module _ (test : List ℕ → Bool) (K : List ℕ → Type 0) (tests : (x : List
     any_formulas none = none_any
     any_formulas (also f fs) = any_both _ _ (formula_variables f) (all_variables fs) (any_formula f) (any_formulas fs)
 
-is_bound_test : {Id : Type 0} (tree : Id → Tree) (bound : List (List ℕ × Id)) (x : List ℕ) → (is_some (bound_to bound x) ≡ true) ↔ IsBound (trees_bound tree bound) x
-is_bound_test {Id} tree bound x = go (bound_to bound x) refl
+is_bound_test : (bound : BoundTrees) (x : List ℕ) → (is_some (bound_to bound x) ≡ true) ↔ IsBound bound x
+is_bound_test bound x = go (bound_to bound x) refl
   where
-    go : (o : Option Id) → bound_to bound x ≡ o → (is_some o ≡ true) ↔ IsBound (trees_bound tree bound) x
-    go None e = (λ t. absurd (cc), λ h. absurd (let t = sym h.1 ∙ bound_tree tree bound x ∙ ap (option_map tree) e in cc))
-    go (Some i) e = (λ t. (tree i, bound_tree tree bound x ∙ ap (option_map tree) e), λ h. refl)
+    go : (o : Option Tree) → bound_to bound x ≡ o → (is_some o ≡ true) ↔ IsBound bound x
+    go None e = (λ t. absurd (cc), λ h. absurd (let t = sym h.1 ∙ e in cc))
+    go (Some f) e = (λ t. (f, e), λ h. refl)
 
-named_iff : {Id : Type 0} (tree : Id → Tree) (bound : List (List ℕ × Id)) (f : FormulaTree) → (some_bound bound (formula_variables f) ≡ true) ↔ cause.NamesFormulaAsTerm (trees_bound tree bound) f
-named_iff tree bound f = any_formula (λ x. is_some (bound_to bound x)) (IsBound (trees_bound tree bound)) (is_bound_test tree bound) f
+named_iff : (bound : BoundTrees) (f : FormulaTree) → (some_bound bound (formula_variables f) ≡ true) ↔ cause.NamesFormulaAsTerm bound f
+named_iff bound f = any_formula (λ x. is_some (bound_to bound x)) (IsBound bound) (is_bound_test bound) f
 
 -- nothing is bound
-pub none_bound : (Id : Type 0) (xs : List (List ℕ)) → some_bound {Id = Id} [] xs ≡ false
-none_bound Id [] = refl
-none_bound Id (x ∷ xs) = none_bound Id xs
+pub none_bound : (xs : List (List ℕ)) → some_bound {Id = Tree} [] xs ≡ false
+none_bound [] = refl
+none_bound (x ∷ xs) = none_bound xs
 
 -- ---- what stands in atoms
 
@@ -203,23 +201,23 @@ above_iff m h e = (λ t. (let l : most_height < m = grind arith in omega arith),
 
 -- ---- all causes
 
-module _ {Id : Type 0} (c : Context) (tree : Id → Tree) (bound : List (List ℕ × Id)) (names : List (List ℕ)) (f : FormulaTree) (k : Causes) (named : Bool) (h : ℕ)
-    (causes : AreTold c (trees_bound tree bound) (names_after names f) f k) (terms : named ≡ some_bound bound (formula_variables f)) (high : h ≡ told (height_in_place (trees_bound tree bound) f)) where
-  met_applies : (e : StaticError) → ¬ (e ≡ Memory) → (is_met named k h e ≡ true) ↔ Applies c (trees_bound tree bound) names f e
+module _ (c : Context) (bound : BoundTrees) (names : List (List ℕ)) (f : FormulaTree) (k : Causes) (named : Bool) (h : ℕ)
+    (causes : AreTold c bound (names_after names f) f k) (terms : named ≡ some_bound bound (formula_variables f)) (high : h ≡ told (height_in_place bound f)) where
+  met_applies : (e : StaticError) → ¬ (e ≡ Memory) → (is_met named k h e ≡ true) ↔ Applies c bound names f e
   met_applies Unbound n = causes Unbound
-  met_applies FormulaAsTerm n = let i = named_iff tree bound f in (λ t. i.0 (sym terms ∙ t), λ s. terms ∙ i.1 s)
+  met_applies FormulaAsTerm n = let i = named_iff bound f in (λ t. i.0 (sym terms ∙ t), λ s. terms ∙ i.1 s)
   met_applies Nonlinear n = causes Nonlinear
   met_applies Division n = causes Division
   met_applies CongruenceContext n = iff_then _ _ _ (causes CongruenceContext) (congruence_iff c f)
   met_applies Modulus n = causes Modulus
-  met_applies Depth n = above_iff h (height_in_place (trees_bound tree bound) f) high
-  met_applies Overflow n = iff_then _ _ _ (causes Overflow) (overflow_iff (SomeTerm HasPast) (PassesInReading c (trees_bound tree bound) (place (names_after names f))) f)
+  met_applies Depth n = above_iff h (height_in_place bound f) high
+  met_applies Overflow n = iff_then _ _ _ (causes Overflow) (overflow_iff (SomeTerm HasPast) (PassesInReading c bound (place (names_after names f))) f)
   met_applies Memory n = absurd (n refl)
 
-  unmet_not : (e : StaticError) → ¬ (e ≡ Memory) → is_met named k h e ≡ false → ¬ (Applies c (trees_bound tree bound) names f e)
+  unmet_not : (e : StaticError) → ¬ (e ≡ Memory) → is_met named k h e ≡ false → ¬ (Applies c bound names f e)
   unmet_not e n i a = let t = (met_applies e n).1 a in absurd (cc)
 
-  pub accepted : ((e : StaticError) → is_met named k h e ≡ false) → IsAccepted c (trees_bound tree bound) names f
+  pub accepted : ((e : StaticError) → is_met named k h e ≡ false) → IsAccepted c bound names f
   accepted n = record {
     bound_names = unmet_not Unbound (λ e. cc) (n Unbound);
     variables = unmet_not FormulaAsTerm (λ e. cc) (n FormulaAsTerm);
@@ -231,14 +229,14 @@ module _ {Id : Type 0} (c : Context) (tree : Id → Tree) (bound : List (List �
     within = unmet_not Overflow (λ e. cc) (n Overflow);
   }
 
-  none_applies : (ds : List StaticError) → EachOf (λ d. ¬ (d ≡ Memory)) ds → EachOf (λ d. is_met named k h d ≡ false) ds → EachOf (λ d. ¬ (Applies c (trees_bound tree bound) names f d)) ds
+  none_applies : (ds : List StaticError) → EachOf (λ d. ¬ (d ≡ Memory)) ds → EachOf (λ d. is_met named k h d ≡ false) ds → EachOf (λ d. ¬ (Applies c bound names f d)) ds
   none_applies [] n i = tt
   none_applies (d ∷ ds) n i = (unmet_not d n.0 i.0, none_applies ds n.1 i.1)
 
-  first_of : (e : StaticError) → ¬ (e ≡ Memory) → IsFirstOf (is_met named k h) e → IsFirst c (trees_bound tree bound) names f e
+  first_of : (e : StaticError) → ¬ (e ≡ Memory) → IsFirstOf (is_met named k h) e → IsFirst c bound names f e
   first_of e n i = record { applies = (met_applies e n).0 i.met; first = none_applies (before e) (no_memory e) i.first }
 
-  pub refused : (e : StaticError) → IsFirstOf (is_met named k h) e → IsFirstCause c (trees_bound tree bound) names f e
+  pub refused : (e : StaticError) → IsFirstOf (is_met named k h) e → IsFirstCause c bound names f e
   refused Unbound i = first_of Unbound (λ e. cc) i
   refused FormulaAsTerm i = first_of FormulaAsTerm (λ e. cc) i
   refused Nonlinear i = first_of Nonlinear (λ e. cc) i

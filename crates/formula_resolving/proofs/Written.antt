@@ -1,16 +1,21 @@
 -- The variables and the nodes of what is written, told by its parts.
-use Rattle.std.proofs.Common.{◌≡◌, ◌⊎◌, ⊎_elim, ℕ, suc, List, [], ◌∷◌, ◌++◌, ap, ap₂, sym, ◌∙◌}
+use Rattle.std.proofs.Common.{◌≡◌, ◌⊎◌, inl, inr, ⊎_elim, map, ℕ, suc, List, [], ◌∷◌, ◌++◌, ap, ap₂, sym, ◌∙◌}
 use Rattle.std.specs.declared.boxed.Box.{Box}
 use Rattle.std.specs.declared.alloc.Global.{Global}
-use Rattle.formula_meaning.specs.Sizes.{nodes}
+use Rattle.formula_meaning.specs.Sizes.{nodes, all_nodes}
+use Rattle.formula_meaning.specs.Formula.{And, Or}
 use Rattle.qe_syntax.specs.declared.tree.Relation.{Relation}
 use Rattle.qe_syntax.specs.declared.tree.Term as code
 use Rattle.qe_syntax.specs.declared.tree.Term.TheVariants as term
 use Rattle.qe_syntax.specs.declared.tree.Formula as written
 use Rattle.qe_syntax.specs.declared.tree.Formula.TheVariants as formula
-use Rattle.qe_syntax.specs.CodeTrees.{term_tree, formula_tree}
+use Rattle.qe_syntax.specs.declared.tree.Formulas as writtens
+use Rattle.qe_syntax.specs.Trees.{formulas_of}
+use Rattle.qe_syntax.specs.Holes.{all_of}
+use Rattle.qe_syntax.specs.CodeTrees.{term_tree, whole_formula, whole_formulas, formula_tree}
 use Rattle.qe_syntax.proofs.TreeEquations.{tree-Quotient, formula-Compare, formula-Cong, formula-Ncong, formula-Impl, formula-Repl, formula-Equiv, formula-Ex, formula-All}
-use Rattle.resolved_formulas.specs.Resolving.{variables_of, formula_variables}
+use Rattle.resolved_formulas.specs.Resolving.{variables_of, formula_variables, all_variables}
+use Rattle.formula_resolving.proofs.WrittenParts.{conjunction_is, disjunction_is}
 
 pub quotient_variables : (f : code.Term) (a b : Box code.Term Global) (x y : code.Term) → f ≡ term.Quotient a b → x ≡ a.value → y ≡ b.value → variables_of (term_tree f) ≡ variables_of (term_tree x) ++ variables_of (term_tree y)
 quotient_variables f a b x y e d k =
@@ -44,3 +49,16 @@ pub quantified_nodes : (f : written.Formula) (x : List ℕ) (b : Box written.For
 quantified_nodes f x b g is d =
     ⊎_elim (λ e. ap nodes (ap formula_tree e ∙ formula-Ex x b)) (λ e. ap nodes (ap formula_tree e ∙ formula-All x b)) is
     ∙ ap (λ s. suc (nodes (formula_tree s))) (sym d)
+
+-- the members of a conjunction or a disjunction
+joint_is : (f : written.Formula) (fs : writtens.Formulas) (xs : List written.Formula) → (f ≡ formula.And fs) ⊎ (f ≡ formula.Or fs) → whole_formulas fs ≡ all_of (map whole_formula xs)
+    → (formula_tree f ≡ And (formulas_of (map formula_tree xs))) ⊎ (formula_tree f ≡ Or (formulas_of (map formula_tree xs)))
+joint_is f fs xs is d = ⊎_elim (λ e. inl (conjunction_is f fs xs e d).tree) (λ e. inr (disjunction_is f fs xs e d).tree) is
+
+pub members_variables : (f : written.Formula) (fs : writtens.Formulas) (xs : List written.Formula) → (f ≡ formula.And fs) ⊎ (f ≡ formula.Or fs) → whole_formulas fs ≡ all_of (map whole_formula xs)
+    → formula_variables (formula_tree f) ≡ all_variables (formulas_of (map formula_tree xs))
+members_variables f fs xs is d = ⊎_elim (λ e. ap formula_variables e) (λ e. ap formula_variables e) (joint_is f fs xs is d)
+
+pub members_nodes : (f : written.Formula) (fs : writtens.Formulas) (xs : List written.Formula) → (f ≡ formula.And fs) ⊎ (f ≡ formula.Or fs) → whole_formulas fs ≡ all_of (map whole_formula xs)
+    → nodes (formula_tree f) ≡ suc (all_nodes (formulas_of (map formula_tree xs)))
+members_nodes f fs xs is d = ⊎_elim (λ e. ap nodes e) (λ e. ap nodes e) (joint_is f fs xs is d)

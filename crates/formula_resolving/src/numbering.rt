@@ -1,14 +1,28 @@
 //! The variables of a formula get their numbers, in the order of the text.
 
-ghost use Rattle.std.specs.Prelude.{◌∷◌, [], IfOk, map};
+ghost use Rattle.std.specs.Prelude.{◌≡◌, ◌≤◌, ◌∷◌, [], IfOk, length, map};
 ghost use Rattle.qe_syntax.specs.Trees.{terms_of, formulas_of};
 ghost use Rattle.qe_syntax.specs.CodeTrees.{term_tree, formula_tree};
 ghost use Rattle.qe_syntax.specs.Valued.{IsUnquantified};
 ghost use Rattle.resolved_formulas.specs.Resolving.{variables_of, variables_in, formula_variables, all_variables};
+ghost use Rattle.formula_tree.specs.Bindings.{bound_to};
 ghost use Rattle.formula_resolving.specs.Numbering.{IsNumbered, Grows};
 
 use formula_tree::{Bindings, Names, NamesError};
 use qe_syntax::{Formula, Name, Term};
+
+/// What is bound to a name, which has at most 64 bytes; `None` exactly where nothing is.
+pub(crate) fn bound_formula<Id: Copy>(name: &Name, bound: &Bindings<Id>) -> Option<Id>
+    ensures bound { result ≡ bound_to bound.now name.now }
+    ensures short { length name.now ≤ 64 }
+{
+    // The name of an answer is longer.
+    prove!(name.bytes().len() <= 64);
+    if bound.len() == 0 {
+        return None;
+    }
+    bound.get(name)
+}
 
 /// Numbers a variable, and answers whether something is bound to its name.
 fn number_name<Id: Copy>(
@@ -20,7 +34,7 @@ fn number_name<Id: Copy>(
     ensures grown { Grows names.old names.new }
 {
     names.number(name)?;
-    Ok(bound.len() > 0 && bound.get(name).is_some())
+    Ok(bound_formula(name, bound).is_some())
 }
 
 /// Numbers the variables of a term, and answers whether something is bound to one of them.
@@ -100,7 +114,7 @@ fn number_matrix<Id: Copy>(
     ensures grown { Grows names.old names.new }
 {
     match formula {
-        Formula::True | Formula::False | Formula::Named(_) => Ok(false),
+        Formula::True | Formula::False | Formula::Named(_) | Formula::Computed(_) => Ok(false),
         Formula::Compare(_, left, right) => {
             let left = number_term(left, bound, names)?;
             let right = number_term(right, bound, names)?;

@@ -1,9 +1,13 @@
 //! The parts of a formula as they are read, and the formulas made over them.
 
-ghost use Rattle.std.specs.Prelude.{◌≡◌, ◌++◌, [], max, Some, IfOk, OnOk};
+ghost use Rattle.std.specs.Prelude.{◌≡◌, ◌++◌, List, ℕ, [], max, Some, IfOk, OnOk};
 ghost use Rattle.std.specs.Option.{option_to_list, ForSome};
 ghost use Rattle.atom_normal.specs.Atoms.{context_of, IsWellFormedNormal};
 ghost use Rattle.formula_tree.specs.Makers.{Keeps};
+ghost use Rattle.formula_meaning.specs.Tree.{Tree};
+ghost use Rattle.formula_tree.specs.Bindings.{bound_to};
+ghost use Rattle.resolved_formulas.specs.Answers.{with_inner};
+ghost use Rattle.resolved_formulas.specs.Resolving.{BoundTrees};
 ghost use Rattle.formula_resolving.specs.BoundIds.{AreIds, trees_bound};
 ghost use Rattle.formula_tree.specs.Shapes.{AllIds, IsProperShape};
 ghost use Rattle.formula_resolving.specs.Parts.{IsFinished, IsNamePart};
@@ -11,6 +15,7 @@ ghost use Rattle.formula_resolving.specs.MetCauses.{atom_causes, either, is_fiel
 ghost use Rattle.formula_resolving.specs.Connectives.{joined_shape, negated_shape, normal_shape, opening_shape, pair_shape};
 
 use crate::causes::{Causes, told};
+use crate::numbering::bound_formula;
 use atom_normal::{Context, Normal};
 use formula_meaning::{Junction, Quantifier};
 use formula_tree::{Bindings, Ids, Maker, Shape};
@@ -204,17 +209,25 @@ pub(crate) fn is_fields(context: Context) -> bool
     }
 }
 
-/// The part of a name that stands as a formula.
+/// The part of a name that stands for a formula that was made.
+pub(crate) fn made_part<M: Maker>(id: M::Id, maker: &M) -> Part<M::Id>
+    requires { M.is_id maker.now id }
+    ensures { (bound : BoundTrees) (x : List ℕ) → bound_to bound x ≡ Some (M.tree maker.now id) → IsNamePart bound (M.is_id maker.now) (M.tree maker.now) x result }
+{
+    Part {
+        causes: Causes::none(),
+        height: told(maker.height(id)),
+        id: Some(id),
+    }
+}
+
+/// The part of a name that a script writes as a formula.
 pub(crate) fn name_part<M: Maker>(name: &Name, bound: &Bindings<M::Id>, maker: &M) -> Part<M::Id>
     requires { AreIds (M.is_id maker.now) bound.now }
-    ensures { IsNamePart (trees_bound (M.tree maker.now) bound.now) (M.is_id maker.now) (M.tree maker.now) name.now result }
+    ensures { (answers : List Tree) → IsNamePart (with_inner answers (trees_bound (M.tree maker.now) bound.now)) (M.is_id maker.now) (M.tree maker.now) name.now result }
 {
-    match bound.get(name) {
-        Some(id) => Part {
-            causes: Causes::none(),
-            height: told(maker.height(id)),
-            id: Some(id),
-        },
+    match bound_formula(name, bound) {
+        Some(id) => made_part(id, maker),
         None => Part {
             causes: Causes::nothing_bound(),
             height: 1,

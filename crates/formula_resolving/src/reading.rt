@@ -1,34 +1,43 @@
 //! A written formula is read: the causes of a refusal in it, its height, and its resolved formula.
 
-ghost use Rattle.std.specs.Prelude.{◌≡◌, IfOk, map};
+ghost use Rattle.std.specs.Prelude.{◌≡◌, ◌≤◌, ◌<◌, ◌+◌, ℕ, length, IfOk, OnOk, map};
+ghost use Rattle.std.specs.List.{AllByRecursion};
 ghost use Rattle.formula_meaning.specs.Fold.{joined};
 ghost use Rattle.formula_meaning.specs.Formula.{One};
 ghost use Rattle.written_atoms.specs.Read.{congruence_tree};
 ghost use Rattle.qe_syntax.specs.Proper.{IsProperTerm, IsProperFormula, AreProperFormulas};
 ghost use Rattle.qe_syntax.specs.Trees.{formulas_of, Compare};
-ghost use Rattle.qe_syntax.specs.CodeTrees.{term_tree, formula_tree};
+ghost use Rattle.qe_syntax.specs.Holes.{command_count, inner_name, all_of};
+ghost use Rattle.qe_syntax.specs.CodeTrees.{term_tree, formula_tree, whole_formula, named_tree, inner_of};
 ghost use Rattle.qe_syntax.specs.Valued.{matrix_of, IsUnquantified};
 ghost use Rattle.atom_normal.specs.Atoms.{context_of};
 ghost use Rattle.formula_tree.specs.Makers.{Keeps};
 ghost use Rattle.formula_tree.specs.Names.{place};
-ghost use Rattle.formula_resolving.specs.BoundIds.{AreIds, trees_bound};
-ghost use Rattle.formula_resolving.specs.Parts.{IsPart};
+ghost use Rattle.formula_resolving.specs.BoundIds.{AreIds, answered_trees};
+ghost use Rattle.formula_resolving.specs.Parts.{IsPart, IsNamePart};
 ghost use Rattle.formula_resolving.specs.Connectives.{Opens, paired};
 
 use crate::causes::{Causes, above};
 use crate::parts::{
-    Members, Opening, Pair, Part, atom_part, finish, is_fields, joined, name_part, negation,
+    Members, Opening, Pair, Part, atom_part, finish, is_fields, joined, made_part, name_part,
+    negation,
 };
 use atom_normal::Context;
 use formula_meaning::{Junction, Quantifier};
 use formula_tree::{Bindings, Maker, Names, Shape};
-use qe_syntax::{Formula, Relation, Term, matrix};
+use qe_syntax::{Formula, Relation, Term};
 use std::alloc::{AllocError, Global};
 use written_atoms::{read_comparison, read_congruence};
 
-/// The quantifiers with which the formula begins.
-fn prefix(alloc: Global, formula: &Formula, names: &Names) -> Result<Vec<Opening>, AllocError>
-    ensures { IfOk result (λ v. Opens names.now v.items (formula_tree formula.now) (matrix_of (formula_tree formula.now))) }
+/// The quantifiers with which the formula begins, and what stands after them.
+fn prefix<'a>(
+    alloc: Global,
+    formula: &'a Formula,
+    names: &Names,
+) -> Result<(Vec<Opening>, &'a Formula), AllocError>
+    ensures opens { IfOk result (λ r. (k : ℕ) → Opens names.now r.0.items (named_tree k formula.now) (named_tree k r.1.now)) }
+    ensures matrix { IfOk result (λ r. formula_tree r.1.now ≡ matrix_of (formula_tree formula.now)) }
+    ensures inner { IfOk result (λ r. inner_of r.1.now ≡ inner_of formula.now) }
 {
     let mut quantifiers = Vec::new(alloc);
     let mut inner = formula;
@@ -48,17 +57,19 @@ fn prefix(alloc: Global, formula: &Formula, names: &Names) -> Result<Vec<Opening
                 })?;
                 inner = body;
             }
-            _ => return Ok(quantifiers),
+            _ => return Ok((quantifiers, inner)),
         }
     }
 }
 
-/// What a formula is read with: the theory, what names of formulas stand for, and the variables' numbers.
+/// What a formula is read with: the theory, what names of formulas stand for, the answers of the commands inside the formula
+/// in the order of the text, and the variables' numbers.
 #[derive(Drop)]
 pub(crate) struct Scope<'a, Id> {
     pub alloc: Global,
     pub context: Context,
     pub bound: &'a Bindings<Id>,
+    pub inner: &'a [Id],
     pub names: &'a Names,
 }
 
@@ -72,7 +83,7 @@ fn comparison_part<M: Maker>(
 ) -> Result<Part<M::Id>, AllocError>
     requires left_proper { IsProperTerm (term_tree left.now) }
     requires right_proper { IsProperTerm (term_tree right.now) }
-    ensures read { IfOk result (IsPart (context_of scope.now.context) (trees_bound (M.tree maker.old) scope.now.bound.now) scope.now.names.now (M.is_id maker.new) (M.tree maker.new) (One (Compare relation (term_tree left.now) (term_tree right.now)))) }
+    ensures read { IfOk result (IsPart (context_of scope.now.context) (answered_trees (M.tree maker.old) scope.now.inner.now scope.now.bound.now) scope.now.names.now (M.is_id maker.new) (M.tree maker.new) (One (Compare relation (term_tree left.now) (term_tree right.now)))) }
     ensures kept { Keeps (M.is_id maker.old) (M.tree maker.old) (M.is_id maker.new) (M.tree maker.new) }
 {
     let alloc = scope.alloc;
@@ -93,7 +104,7 @@ fn congruence_part<M: Maker>(
     requires left_proper { IsProperTerm (term_tree left.now) }
     requires right_proper { IsProperTerm (term_tree right.now) }
     requires modulus_proper { IsProperTerm (term_tree modulus.now) }
-    ensures read { IfOk result (IsPart (context_of scope.now.context) (trees_bound (M.tree maker.old) scope.now.bound.now) scope.now.names.now (M.is_id maker.new) (M.tree maker.new) (One (congruence_tree holds (term_tree left.now) (term_tree right.now) (term_tree modulus.now)))) }
+    ensures read { IfOk result (IsPart (context_of scope.now.context) (answered_trees (M.tree maker.old) scope.now.inner.now scope.now.bound.now) scope.now.names.now (M.is_id maker.new) (M.tree maker.new) (One (congruence_tree holds (term_tree left.now) (term_tree right.now) (term_tree modulus.now)))) }
     ensures kept { Keeps (M.is_id maker.old) (M.tree maker.old) (M.is_id maker.new) (M.tree maker.new) }
 {
     let alloc = scope.alloc;
@@ -103,20 +114,37 @@ fn congruence_part<M: Maker>(
     atom_part(read, is_fields(context), maker)
 }
 
-/// Reads a formula. The formulas that the maker made stay.
+/// The part of the next answer, which is taken.
+fn answer_part<M: Maker>(scope: &Scope<'_, M::Id>, taken: &mut usize, maker: &M) -> Part<M::Id>
+    requires answers { AllByRecursion (M.is_id maker.now) scope.now.inner.now }
+    requires room { taken.old < length scope.now.inner.now }
+    ensures read { IsNamePart (answered_trees (M.tree maker.now) scope.now.inner.now scope.now.bound.now) (M.is_id maker.now) (M.tree maker.now) (inner_name taken.old) result }
+    ensures taken { taken.new ≡ taken.old + 1 }
+{
+    let id = scope.inner[*taken];
+    *taken += 1;
+    made_part(id, maker)
+}
+
+/// Reads a formula, with the answers of its commands from the place `taken` on, and takes these. The formulas that the maker
+/// made stay.
 #[cycle(reading)]
 pub(crate) fn read_formula<M: Maker>(
     scope: &Scope<'_, M::Id>,
     formula: &Formula,
+    taken: &mut usize,
     maker: &mut M,
 ) -> Result<Part<M::Id>, AllocError>
     requires proper { IsProperFormula (formula_tree formula.now) }
     requires ids { AreIds (M.is_id maker.old) scope.now.bound.now }
-    ensures read { IfOk result (IsPart (context_of scope.now.context) (trees_bound (M.tree maker.old) scope.now.bound.now) scope.now.names.now (M.is_id maker.new) (M.tree maker.new) (formula_tree formula.now)) }
+    requires answers { AllByRecursion (M.is_id maker.old) scope.now.inner.now }
+    requires room { taken.old + command_count (inner_of formula.now) ≤ length scope.now.inner.now }
+    ensures read { IfOk result (IsPart (context_of scope.now.context) (answered_trees (M.tree maker.old) scope.now.inner.now scope.now.bound.now) scope.now.names.now (M.is_id maker.new) (M.tree maker.new) (named_tree taken.old formula.now)) }
+    ensures taken { OnOk result (taken.new ≡ taken.old + command_count (inner_of formula.now)) }
     ensures kept { Keeps (M.is_id maker.old) (M.tree maker.old) (M.is_id maker.new) (M.tree maker.new) }
 {
-    let mut quantifiers = prefix(scope.alloc, formula, scope.names)?;
-    let mut part = read_matrix(scope, matrix(formula), maker)?;
+    let (mut quantifiers, matrix) = prefix(scope.alloc, formula, scope.names)?;
+    let mut part = read_matrix(scope, matrix, taken, maker)?;
     'prefix: while let Some(quantifier) = quantifiers.pop() {
         part = finish(
             part.causes,
@@ -129,17 +157,21 @@ pub(crate) fn read_formula<M: Maker>(
 }
 
 /// Reads a formula that begins with no quantifier.
-#[tactic(auto, using(qe_syntax::proofs::TreeEquations::trees))]
+#[tactic(auto, using(qe_syntax::proofs::TreeEquations::trees, qe_syntax::proofs::TreeEquations::inners))]
 #[cycle(reading)]
 fn read_matrix<M: Maker>(
     scope: &Scope<'_, M::Id>,
     formula: &Formula,
+    taken: &mut usize,
     maker: &mut M,
 ) -> Result<Part<M::Id>, AllocError>
     requires unquantified { IsUnquantified (formula_tree formula.now) }
     requires proper { IsProperFormula (formula_tree formula.now) }
     requires ids { AreIds (M.is_id maker.old) scope.now.bound.now }
-    ensures read { IfOk result (IsPart (context_of scope.now.context) (trees_bound (M.tree maker.old) scope.now.bound.now) scope.now.names.now (M.is_id maker.new) (M.tree maker.new) (formula_tree formula.now)) }
+    requires answers { AllByRecursion (M.is_id maker.old) scope.now.inner.now }
+    requires room { taken.old + command_count (inner_of formula.now) ≤ length scope.now.inner.now }
+    ensures read { IfOk result (IsPart (context_of scope.now.context) (answered_trees (M.tree maker.old) scope.now.inner.now scope.now.bound.now) scope.now.names.now (M.is_id maker.new) (M.tree maker.new) (named_tree taken.old formula.now)) }
+    ensures taken { OnOk result (taken.new ≡ taken.old + command_count (inner_of formula.now)) }
     ensures kept { Keeps (M.is_id maker.old) (M.tree maker.old) (M.is_id maker.new) (M.tree maker.new) }
 {
     match formula {
@@ -155,15 +187,28 @@ fn read_matrix<M: Maker>(
             congruence_part(scope, false, left, right, modulus, maker)
         }
         Formula::Named(name) => Ok(name_part(name, scope.bound, maker)),
+        Formula::Computed(_) => Ok(answer_part(scope, taken, maker)),
         Formula::Not(inner) => {
-            let part = read_formula(scope, inner, maker)?;
+            let part = read_formula(scope, inner, taken, maker)?;
             finish(part.causes, above(part.height), negation(part.id), maker)
         }
-        Formula::And(members) => read_joint(scope, Junction::Conjunction, members.items(), maker),
-        Formula::Or(members) => read_joint(scope, Junction::Disjunction, members.items(), maker),
-        Formula::Impl(left, right) => read_pair(scope, Pair::Impl, left, right, maker),
-        Formula::Repl(left, right) => read_pair(scope, Pair::Repl, left, right, maker),
-        Formula::Equiv(left, right) => read_pair(scope, Pair::Equiv, left, right, maker),
+        Formula::And(members) => read_joint(
+            scope,
+            Junction::Conjunction,
+            members.items(),
+            taken,
+            maker,
+        ),
+        Formula::Or(members) => read_joint(
+            scope,
+            Junction::Disjunction,
+            members.items(),
+            taken,
+            maker,
+        ),
+        Formula::Impl(left, right) => read_pair(scope, Pair::Impl, left, right, taken, maker),
+        Formula::Repl(left, right) => read_pair(scope, Pair::Repl, left, right, taken, maker),
+        Formula::Equiv(left, right) => read_pair(scope, Pair::Equiv, left, right, taken, maker),
         Formula::Ex(..) | Formula::All(..) => unreachable!(),
     }
 }
@@ -175,16 +220,20 @@ fn read_pair<M: Maker>(
     pair: Pair,
     left: &Formula,
     right: &Formula,
+    taken: &mut usize,
     maker: &mut M,
 ) -> Result<Part<M::Id>, AllocError>
     requires left_proper { IsProperFormula (formula_tree left.now) }
     requires right_proper { IsProperFormula (formula_tree right.now) }
     requires ids { AreIds (M.is_id maker.old) scope.now.bound.now }
-    ensures read { IfOk result (IsPart (context_of scope.now.context) (trees_bound (M.tree maker.old) scope.now.bound.now) scope.now.names.now (M.is_id maker.new) (M.tree maker.new) (paired pair (formula_tree left.now) (formula_tree right.now))) }
+    requires answers { AllByRecursion (M.is_id maker.old) scope.now.inner.now }
+    requires room { taken.old + (command_count (inner_of left.now) + command_count (inner_of right.now)) ≤ length scope.now.inner.now }
+    ensures read { IfOk result (IsPart (context_of scope.now.context) (answered_trees (M.tree maker.old) scope.now.inner.now scope.now.bound.now) scope.now.names.now (M.is_id maker.new) (M.tree maker.new) (paired pair (named_tree taken.old left.now) (named_tree (taken.old + command_count (inner_of left.now)) right.now))) }
+    ensures taken { OnOk result (taken.new ≡ taken.old + (command_count (inner_of left.now) + command_count (inner_of right.now))) }
     ensures kept { Keeps (M.is_id maker.old) (M.tree maker.old) (M.is_id maker.new) (M.tree maker.new) }
 {
-    let left = read_formula(scope, left, maker)?;
-    let right = read_formula(scope, right, maker)?;
+    let left = read_formula(scope, left, taken, maker)?;
+    let right = read_formula(scope, right, taken, maker)?;
     finish(
         left.causes.or(right.causes),
         above(left.height.max(right.height)),
@@ -199,16 +248,20 @@ fn read_joint<M: Maker>(
     scope: &Scope<'_, M::Id>,
     junction: Junction,
     formulas: &[Formula],
+    taken: &mut usize,
     maker: &mut M,
 ) -> Result<Part<M::Id>, AllocError>
     requires proper { AreProperFormulas (formulas_of (map formula_tree formulas.now)) }
     requires ids { AreIds (M.is_id maker.old) scope.now.bound.now }
-    ensures read { IfOk result (IsPart (context_of scope.now.context) (trees_bound (M.tree maker.old) scope.now.bound.now) scope.now.names.now (M.is_id maker.new) (M.tree maker.new) (joined junction (formulas_of (map formula_tree formulas.now)))) }
+    requires answers { AllByRecursion (M.is_id maker.old) scope.now.inner.now }
+    requires room { taken.old + command_count (all_of (map whole_formula formulas.now)).inner ≤ length scope.now.inner.now }
+    ensures read { IfOk result (IsPart (context_of scope.now.context) (answered_trees (M.tree maker.old) scope.now.inner.now scope.now.bound.now) scope.now.names.now (M.is_id maker.new) (M.tree maker.new) (joined junction ((all_of (map whole_formula formulas.now)).named taken.old))) }
+    ensures taken { OnOk result (taken.new ≡ taken.old + command_count (all_of (map whole_formula formulas.now)).inner) }
     ensures kept { Keeps (M.is_id maker.old) (M.tree maker.old) (M.is_id maker.new) (M.tree maker.new) }
 {
     let mut members = Members::none(scope.alloc);
     for formula in formulas {
-        let part = read_formula(scope, formula, maker)?;
+        let part = read_formula(scope, formula, taken, maker)?;
         members.add(part)?;
     }
     finish(

@@ -1,13 +1,15 @@
-ghost use Rattle.std.specs.Prelude.{◌≡◌, IfOk, IfErr, OnOk, OnErr};
+ghost use Rattle.std.specs.Prelude.{◌≡◌, length, IfOk, IfErr, OnOk, OnErr};
+ghost use Rattle.std.specs.List.{AllByRecursion};
 ghost use Rattle.qe_syntax.specs.Proper.{IsProperFormula};
-ghost use Rattle.qe_syntax.specs.CodeTrees.{formula_tree};
+ghost use Rattle.qe_syntax.specs.Holes.{command_count};
+ghost use Rattle.qe_syntax.specs.CodeTrees.{formula_tree, named_tree, inner_of};
 ghost use Rattle.atom_normal.specs.Atoms.{context_of};
 ghost use Rattle.resolved_formulas.specs.Accepted.{IsAccepted};
 ghost use Rattle.formula_tree.specs.Makers.{IsMade, Keeps};
 ghost use Rattle.resolved_formulas.specs.Resolving.{resolve};
 ghost use Rattle.resolved_formulas.specs.NamesAfter.{names_after};
 ghost use Rattle.formula_resolving.specs.Numbering.{Grows};
-ghost use Rattle.formula_resolving.specs.BoundIds.{AreIds, trees_bound};
+ghost use Rattle.formula_resolving.specs.BoundIds.{AreIds, answered_trees};
 ghost use Rattle.formula_resolving.specs.FirstCause.{IsFirstCause};
 
 use crate::error::StaticError;
@@ -18,28 +20,32 @@ use formula_tree::{Bindings, Maker, Names};
 use qe_syntax::Formula;
 use std::alloc::Global;
 
-/// The resolved formula: bound names by their trees, each comparison and congruence by its normal atom. Its new variables
-/// get the next numbers, in the order of the text. The first cause of a refusal is answered, else `Memory`; then the
-/// names are as before, and formulas may have been made that nothing needs.
+/// The resolved formula: bound names by their trees, each comparison and congruence by its normal atom, and each command inside
+/// the formula by the tree of its answer, where `inner` has the answers in the order of the text; nothing else inside a command
+/// is looked at. The new variables get the next numbers, in the order of the text. The first cause of a refusal is answered,
+/// else `Memory`; then the names are as before, and formulas may have been made that nothing needs.
 pub fn linearise<M: Maker>(
     alloc: Global,
     formula: &Formula,
     bound: &Bindings<M::Id>,
+    inner: &[M::Id],
     context: Context,
     names: &mut Names,
     maker: &mut M,
 ) -> Result<M::Id, StaticError>
     requires proper { IsProperFormula (formula_tree formula.now) }
     requires ids { AreIds (M.is_id maker.old) bound.now }
-    ensures accepted { OnOk result (IsAccepted (context_of context) (trees_bound (M.tree maker.old) bound.now) names.old (formula_tree formula.now)) }
-    ensures resolved { IfOk result (λ id. IsMade (M.is_id maker.new) (M.tree maker.new) id (resolve (context_of context) (trees_bound (M.tree maker.old) bound.now) (names_after names.old (formula_tree formula.now)) (formula_tree formula.now))) }
-    ensures names { OnOk result (names.new ≡ names_after names.old (formula_tree formula.now)) }
-    ensures refused { IfErr result (IsFirstCause (context_of context) (trees_bound (M.tree maker.old) bound.now) names.old (formula_tree formula.now)) }
+    requires answers { AllByRecursion (M.is_id maker.old) inner.now }
+    requires places { length inner.now ≡ command_count (inner_of formula.now) }
+    ensures accepted { OnOk result (IsAccepted (context_of context) (answered_trees (M.tree maker.old) inner.now bound.now) names.old (named_tree 0 formula.now)) }
+    ensures resolved { IfOk result (λ id. IsMade (M.is_id maker.new) (M.tree maker.new) id (resolve (context_of context) (answered_trees (M.tree maker.old) inner.now bound.now) (names_after names.old (named_tree 0 formula.now)) (named_tree 0 formula.now))) }
+    ensures names { OnOk result (names.new ≡ names_after names.old (named_tree 0 formula.now)) }
+    ensures refused { IfErr result (IsFirstCause (context_of context) (answered_trees (M.tree maker.old) inner.now bound.now) names.old (named_tree 0 formula.now)) }
     ensures unchanged { OnErr result (names.new ≡ names.old) }
     ensures kept { Keeps (M.is_id maker.old) (M.tree maker.old) (M.is_id maker.new) (M.tree maker.new) }
 {
     let count = names.count();
-    match resolved(alloc, formula, bound, context, names, maker) {
+    match resolved(alloc, formula, bound, inner, context, names, maker) {
         Ok(id) => Ok(id),
         Err(error) => {
             names.keep_first(count);
@@ -54,16 +60,19 @@ fn resolved<M: Maker>(
     alloc: Global,
     formula: &Formula,
     bound: &Bindings<M::Id>,
+    inner: &[M::Id],
     context: Context,
     names: &mut Names,
     maker: &mut M,
 ) -> Result<M::Id, StaticError>
     requires proper { IsProperFormula (formula_tree formula.now) }
     requires ids { AreIds (M.is_id maker.old) bound.now }
-    ensures accepted { OnOk result (IsAccepted (context_of context) (trees_bound (M.tree maker.old) bound.now) names.old (formula_tree formula.now)) }
-    ensures resolved { IfOk result (λ id. IsMade (M.is_id maker.new) (M.tree maker.new) id (resolve (context_of context) (trees_bound (M.tree maker.old) bound.now) (names_after names.old (formula_tree formula.now)) (formula_tree formula.now))) }
-    ensures names { OnOk result (names.new ≡ names_after names.old (formula_tree formula.now)) }
-    ensures refused { IfErr result (IsFirstCause (context_of context) (trees_bound (M.tree maker.old) bound.now) names.old (formula_tree formula.now)) }
+    requires answers { AllByRecursion (M.is_id maker.old) inner.now }
+    requires places { length inner.now ≡ command_count (inner_of formula.now) }
+    ensures accepted { OnOk result (IsAccepted (context_of context) (answered_trees (M.tree maker.old) inner.now bound.now) names.old (named_tree 0 formula.now)) }
+    ensures resolved { IfOk result (λ id. IsMade (M.is_id maker.new) (M.tree maker.new) id (resolve (context_of context) (answered_trees (M.tree maker.old) inner.now bound.now) (names_after names.old (named_tree 0 formula.now)) (named_tree 0 formula.now))) }
+    ensures names { OnOk result (names.new ≡ names_after names.old (named_tree 0 formula.now)) }
+    ensures refused { IfErr result (IsFirstCause (context_of context) (answered_trees (M.tree maker.old) inner.now bound.now) names.old (named_tree 0 formula.now)) }
     ensures grown { Grows names.old names.new }
     ensures kept { Keeps (M.is_id maker.old) (M.tree maker.old) (M.is_id maker.new) (M.tree maker.new) }
 {
@@ -74,9 +83,11 @@ fn resolved<M: Maker>(
         alloc,
         context,
         bound,
+        inner,
         names,
     };
-    let Ok(part) = read_formula(&scope, formula, maker) else {
+    let mut taken = 0;
+    let Ok(part) = read_formula(&scope, formula, &mut taken, maker) else {
         return Err(StaticError::Memory);
     };
     match part.causes.first(named, part.height) {

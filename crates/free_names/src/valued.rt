@@ -18,6 +18,7 @@ ghost use Rattle.formula_resolving.specs.BoundIds.{AreIds, trees_bound};
 ghost use Rattle.free_names.specs.Entries.{HasEntryAt};
 ghost use Rattle.free_names.specs.Missing.{IsSound};
 ghost use Rattle.free_names.specs.Places.{IsFreeHere, AreFreeHere, in_scope, name_in_scope};
+ghost use Rattle.free_names.specs.Whole.{IsWhole, AreWhole};
 ghost use Rattle.free_names.specs.Scopes.{AreAmong, IsIn, IsOpened, IsClosed};
 
 use crate::missing::{Table, look_into, numbers};
@@ -38,7 +39,7 @@ struct Around<'a> {
 }
 
 /// Whether each number that is free in the formula, with the bound formulas in their places, is that of a name with an
-/// entry. An `Err` is want of memory.
+/// entry. No command may stand in the formula. An `Err` is want of memory.
 pub fn is_valued(
     alloc: Global,
     formula: &Formula,
@@ -47,7 +48,8 @@ pub fn is_valued(
     names: &Names,
     store: &Store,
 ) -> Result<bool, AllocError>
-    requires { AreIds (IsId store.now) bound.now }
+    requires whole { IsWhole (formula_tree formula.now) }
+    requires ids { AreIds (IsId store.now) bound.now }
     ensures { IfOk result (λ valued. MatchBool valued
         ((n : ℕ) → IsFreeInPlace (trees_bound (tree store.now) bound.now) (place names.now) (formula_tree formula.now) n → HasEntryAt (place names.now) entries.now n)
         ((n : ℕ) × IsFreeInPlace (trees_bound (tree store.now) bound.now) (place names.now) (formula_tree formula.now) n × (¬ (HasEntryAt (place names.now) entries.now n)))) }
@@ -191,6 +193,7 @@ fn in_formula(
     opened: &mut BTreeSet<usize>,
     table: &mut Table,
 ) -> Result<bool, AllocError>
+    requires whole { IsWhole (formula_tree formula.now) }
     requires ids { AreIds (IsId around.now.store.now) around.now.bound.now }
     requires sound { IsSound around.now.store.now (contains nat_cmp around.now.valued.now) table.old }
     ensures among { IfOk result (AreAmong (IsFreeHere around.now.store.now around.now.bound.now around.now.names.now (formula_tree formula.now)) (in_scope around.now.valued.now opened.old)) }
@@ -213,6 +216,7 @@ fn in_matrix(
     table: &mut Table,
 ) -> Result<bool, AllocError>
     requires unquantified { IsUnquantified (formula_tree formula.now) }
+    requires whole { IsWhole (formula_tree formula.now) }
     requires ids { AreIds (IsId around.now.store.now) around.now.bound.now }
     requires sound { IsSound around.now.store.now (contains nat_cmp around.now.valued.now) table.old }
     ensures among { IfOk result (AreAmong (IsFreeHere around.now.store.now around.now.bound.now around.now.names.now (formula_tree formula.now)) (in_scope around.now.valued.now opened.old)) }
@@ -241,7 +245,7 @@ fn in_matrix(
             let right = in_formula(around, right, opened, table)?;
             Ok(left && right)
         }
-        Formula::Ex(..) | Formula::All(..) => unreachable!(),
+        Formula::Ex(..) | Formula::All(..) | Formula::Computed(_) => unreachable!(),
     }
 }
 
@@ -253,6 +257,7 @@ fn in_formulas(
     opened: &mut BTreeSet<usize>,
     table: &mut Table,
 ) -> Result<bool, AllocError>
+    requires whole { AreWhole (formulas_of (map formula_tree formulas.now)) }
     requires ids { AreIds (IsId around.now.store.now) around.now.bound.now }
     requires sound { IsSound around.now.store.now (contains nat_cmp around.now.valued.now) table.old }
     ensures among { IfOk result (AreAmong (AreFreeHere around.now.store.now around.now.bound.now around.now.names.now (formulas_of (map formula_tree formulas.now))) (in_scope around.now.valued.now opened.old)) }

@@ -5,7 +5,8 @@ use Rattle.resolved_formulas.specs.Resolving.{formula_variables}
 use Rattle.formula_resolving.specs.Numbering.{IsNumbered}
 use Rattle.formula_resolving.proofs.Measures.{formula_below}
 use Rattle.formula_resolving.proofs.Numbered.{Remains, numbered_then, remains_less, grows_then}
-use Rattle.formula_resolving.proofs.Written.{compare_variables, congruence_variables, pair_variables, quantified_variables, quantified_nodes}
+use Rattle.formula_resolving.proofs.PartLaws.{ok_map}
+use Rattle.formula_resolving.proofs.Written.{compare_variables, congruence_variables, members_variables, members_nodes, pair_variables, quantified_variables, quantified_nodes}
 use Rattle.formula_resolving.proofs.numbering.+formulas.Goals as goal
 
 pub number_formula-prefix-preserved : goal.number_formula-prefix-preserved
@@ -41,3 +42,11 @@ number_matrix-returns-in_ok-modulus-in-Cong-clause-numbered g t c =
     subst (λ (xs : List (List ℕ)). IsNumbered c.args.bound.now xs c.args.names.now c.number_term-in-Cong-3.new.names (c.in_ok-left-in-Cong.left || (c.in_ok-right-in-Cong.right || c.in_ok-modulus-in-Cong.modulus)))
     (sym (congruence_variables _ _ _ _ _ _ _ c.in-Cong.is c.deref-in-Cong.ensures c.deref-in-Cong-2.ensures c.deref-in-Cong-3.ensures))
     (numbered_then c.args.bound.now _ _ _ _ _ _ _ c.in_ok-left-in-Cong.ensures.numbered (numbered_then c.args.bound.now _ _ _ _ _ _ _ c.in_ok-right-in-Cong.ensures.numbered c.in_ok-modulus-in-Cong.ensures.numbered))
+
+-- the members of a conjunction or a disjunction
+pub number_matrix-number_formulas-requires : goal.number_matrix-number_formulas-requires
+number_matrix-number_formulas-requires g t c = λ κs h. ((let k = members_nodes _ _ _ c.in-And.is c.items.ensures in omega arith), search rules)
+
+pub number_matrix-returns-in-And-clause-numbered : goal.number_matrix-returns-in-And-clause-numbered
+number_matrix-returns-in-And-clause-numbered g t c =
+    ok_map c.number_formulas.result (λ met n. subst (λ (xs : List (List ℕ)). IsNumbered c.args.bound.now xs c.args.names.now c.number_formulas.new.names met) (sym (members_variables _ _ _ c.in-And.is c.items.ensures)) n) c.number_formulas.ensures.numbered

@@ -1,19 +1,20 @@
-use Rattle.std.proofs.Common.{◌+◌, ◌*◌, map, take, length}
+use Rattle.std.proofs.Common.{◌≡◌, ◌+◌, ◌*◌, map, take, length}
 use Rattle.formula_meaning.specs.Sizes.{nodes, all_nodes}
 use Rattle.qe_syntax.specs.Trees.{FormulaTree, formulas_of}
-use Rattle.qe_syntax.specs.CodeTrees.{formula_tree}
+use Rattle.qe_syntax.specs.CodeTrees.{formula_tree, named_tree}
 use Rattle.atom_normal.specs.Atoms.{context_of}
 use Rattle.formula_tree.specs.Makers.{Keeps}
-use Rattle.formula_resolving.specs.BoundIds.{trees_bound}
+use Rattle.formula_resolving.specs.BoundIds.{answered_trees}
 use Rattle.formula_resolving.specs.Connectives.{Opens}
 use Rattle.formula_resolving.specs.Parts.{IsPart, AreMembers}
+use Rattle.formula_resolving.proofs.NamedTrees.{named_each, count_each}
 use Rattle.formula_resolving.proofs.reading.+reading.Given as goal
 
 -- the part is that of the formula after the quantifiers that are left
 abbrev pub invariant-read_formula-prefix : goal.invariant-read_formula-prefix
 invariant-read_formula-prefix g l = record {
-  part : (f : FormulaTree) × Opens l.scope.names.now l.quantifiers.items (formula_tree l.formula) f
-      × IsPart (context_of l.scope.context) (trees_bound (g.M.Maker.tree l.fn.maker) l.scope.bound.now) l.scope.names.now (g.M.Maker.is_id l.maker) (g.M.Maker.tree l.maker) f l.part;
+  part : (f : FormulaTree) × Opens l.scope.names.now l.quantifiers.items (named_tree l.fn.taken l.formula) f
+      × IsPart (context_of l.scope.context) (answered_trees (g.M.Maker.tree l.fn.maker) l.scope.inner.now l.scope.bound.now) l.scope.names.now (g.M.Maker.is_id l.maker) (g.M.Maker.tree l.maker) f l.part;
   kept : Keeps (g.M.Maker.is_id l.fn.maker) (g.M.Maker.tree l.fn.maker) (g.M.Maker.is_id l.maker) (g.M.Maker.tree l.maker);
 }
 
@@ -22,7 +23,8 @@ decreases-read_formula-prefix g l = length l.quantifiers.items
 
 abbrev pub invariant-read_joint-loop-formula : goal.invariant-read_joint-loop-formula
 invariant-read_joint-loop-formula g l = record {
-  members : AreMembers (context_of l.scope.context) (trees_bound (g.M.Maker.tree l.initial.maker) l.scope.bound.now) l.scope.names.now (g.M.Maker.is_id l.maker) (g.M.Maker.tree l.maker) (map formula_tree (take l.formula-index l.formulas)) l.members;
+  members : AreMembers (context_of l.scope.context) (answered_trees (g.M.Maker.tree l.initial.maker) l.scope.inner.now l.scope.bound.now) l.scope.names.now (g.M.Maker.is_id l.maker) (g.M.Maker.tree l.maker) (named_each l.initial.taken (take l.formula-index l.formulas)) l.members;
+  taken : l.taken ≡ l.initial.taken + count_each (take l.formula-index l.formulas);
   kept : Keeps (g.M.Maker.is_id l.initial.maker) (g.M.Maker.tree l.initial.maker) (g.M.Maker.is_id l.maker) (g.M.Maker.tree l.maker);
 }
 

@@ -1,4 +1,4 @@
-use Rattle.std.proofs.Common.{refl, ap, ◌∙◌}
+use Rattle.std.proofs.Common.{ap, ◌∙◌}
 use Rattle.formula_resolving.specs.Heights.{over}
 use Rattle.formula_resolving.proofs.PartLaws.{finished_as, finished_id, ok_map, pair_part}
 use Rattle.formula_resolving.proofs.steps.paired_part.Goals as goal

@@ -1,4 +1,5 @@
 use Rattle.std.proofs.Common.{◌+◌, ℕ, List, map, drop, Bool, inl, arith, ap, subst, sym, ◌∙◌}
+use Rattle.std.specs.Prelude.{IfOk}
 use Rattle.std.specs.Ordering.{nat_cmp}
 use Rattle.std.specs.BTreeSet.{contains}
 use Rattle.formula_meaning.specs.Sizes.{nodes}
@@ -13,16 +14,19 @@ use Rattle.formula_tree.specs.Names.{place}
 use Rattle.formula_store.specs.Nodes.{tree}
 use Rattle.formula_resolving.specs.BoundIds.{trees_bound}
 use Rattle.formula_resolving.proofs.Measures.{formula_below, matrix_nodes}
+use Rattle.formula_resolving.proofs.Written.{members_nodes}
+use Rattle.free_names.specs.Whole.{IsWhole}
 use Rattle.free_names.specs.Places.{IsFreeHere, AreFreeHere, in_scope}
 use Rattle.free_names.specs.Scopes.{AreAmong}
 use Rattle.free_names.proofs.Search.{SearchedTo, search_more}
 use Rattle.free_names.proofs.Scopes.{scope_among, among_same}
+use Rattle.free_names.proofs.Wholes.{matrix_whole, whole_member, members_whole, of_members}
 use Rattle.free_names.proofs.valued.+formulas.Goals as goal
 
 pub in_formula-in_matrix-requires : goal.in_formula-in_matrix-requires
 in_formula-in_matrix-requires t c = (
   (let k = matrix_nodes (formula_tree c.args.formula.now) in let e = ap nodes c.matrix.ensures.matrix in omega arith),
-  (subst IsUnquantified (sym c.matrix.ensures.matrix) (matrix_unquantified (formula_tree c.args.formula.now)), (c.requires.ids, c.requires.sound)),
+  (subst IsUnquantified (sym c.matrix.ensures.matrix) (matrix_unquantified (formula_tree c.args.formula.now)), (subst IsWhole (sym c.matrix.ensures.matrix) (matrix_whole (formula_tree c.args.formula.now) c.requires.whole), (c.requires.ids, c.requires.sound))),
 )
 
 pub in_formula-returns-clause-among : goal.in_formula-returns-clause-among
@@ -33,7 +37,7 @@ in_formula-returns-clause-among t c =
     (subst (λ (g : FormulaTree). AreAmong (IsFreeHere c.args.around.now.store.now c.args.around.now.bound.now c.args.around.now.names.now g) (in_scope c.args.around.now.valued.now c.open_scope.new.opened) c.in_ok-valued.valued) c.matrix.ensures.matrix c.in_ok-valued.ensures.among)
 
 pub in_formulas-in_formula-requires : goal.in_formulas-in_formula-requires
-in_formulas-in_formula-requires t c = ((let k = formula_below _ _ _ c.formula-item.is c.loop-formula-test.true in omega arith), (c.requires.ids, c.loop-formula.invariant.sound))
+in_formulas-in_formula-requires t c = ((let k = formula_below _ _ _ c.formula-item.is c.loop-formula-test.true in omega arith), (whole_member _ _ _ c.requires.whole c.formula-item.is c.loop-formula-test.true, (c.requires.ids, c.loop-formula.invariant.sound)))
 
 pub in_formulas-returns-then-not-branch-clause-among : goal.in_formulas-returns-then-not-branch-clause-among
 in_formulas-returns-then-not-branch-clause-among t c =
@@ -66,3 +70,12 @@ in_formulas-loop-formula-preserved t c =
       kept = λ n. c.loop-formula.invariant.kept n ∙ c.in_ok-in_formula.ensures.kept n;
       sound = c.in_ok-in_formula.ensures.sound;
     }
+
+pub in_matrix-in_formulas-requires : goal.in_matrix-in_formulas-requires
+in_matrix-in_formulas-requires t c = ((let k = members_nodes _ _ _ c.in-And.is c.items.ensures in omega arith), (members_whole _ _ _ c.in-And.is c.items.ensures c.requires.whole, (c.requires.ids, c.requires.sound)))
+
+pub in_matrix-returns-in-And-clause-among : goal.in_matrix-returns-in-And-clause-among
+in_matrix-returns-in-And-clause-among t c =
+    let around = c.args.around.now in
+    of_members (λ (f : FormulaTree). IfOk c.in_formulas.result (AreAmong (IsFreeHere around.store.now around.bound.now around.names.now f) (in_scope around.valued.now c.args.opened.now))) _ _ _ c.in-And.is c.items.ensures
+    c.in_formulas.ensures.among c.in_formulas.ensures.among

@@ -1,0 +1,167 @@
+-- Names in the holes of a formula, which are no variables of it.
+use Rattle.std.proofs.Common.{◌≡◌, ℕ, zero, suc, ◌+◌, ◌<◌, List, [], ◌∷◌, ◌++◌, map, refl, sym, ap, ap₂, ◌∙◌, subst, arith}
+use Rattle.formula_meaning.specs.Formula.{Formula, One}
+use Rattle.formula_meaning.specs.Formula as plain
+use Rattle.formula_meaning.specs.Replaced.{replaced, all_replaced}
+use Rattle.formula_meaning.specs.Sizes.{nodes, all_nodes}
+use Rattle.qe_syntax.specs.declared.tree.Formula as written
+use Rattle.qe_syntax.specs.declared.tree.Formula.TheVariants as formula
+use Rattle.qe_syntax.specs.declared.tree.Formula.TheOpen as layer
+use Rattle.qe_syntax.specs.declared.tree.Formulas as writtens
+use Rattle.qe_syntax.specs.declared.tree.InnerCommand as commands
+use Rattle.qe_syntax.specs.Trees.{WrittenAtom, Compare, Cong, Ncong, Bound, FormulaTree, FormulaTrees, formulas_of}
+use Rattle.qe_syntax.specs.Holes.{Holed, hole, command_count, all_of}
+use Rattle.qe_syntax.specs.CodeTrees.{whole_formula, formula_tree, formula_trees, named_tree, named_trees, inner_of}
+use Rattle.resolved_formulas.specs.Resolving.{formula_variables, all_variables}
+use Rattle.qe_syntax.proofs.TreeEquations.{
+  formula-True,
+  formula-False,
+  formula-Compare,
+  formula-Cong,
+  formula-Ncong,
+  formula-Not,
+  formula-And,
+  formula-Or,
+  formula-Impl,
+  formula-Repl,
+  formula-Equiv,
+  formula-Ex,
+  formula-All,
+  formula-Named,
+  formula-Computed,
+  formulas-out,
+  named-True,
+  named-False,
+  named-Compare,
+  named-Cong,
+  named-Ncong,
+  named-Not,
+  named-And,
+  named-Or,
+  named-Impl,
+  named-Repl,
+  named-Equiv,
+  named-Ex,
+  named-All,
+  named-Named,
+  named-Computed,
+  wholes-out,
+}
+
+-- a hole where a name stands as a formula
+abbrev holed_atom : WrittenAtom → FormulaTree
+holed_atom (Compare rel s t) = One (Compare rel s t)
+holed_atom (Cong s t m) = One (Cong s t m)
+holed_atom (Ncong s t m) = One (Ncong s t m)
+holed_atom (Bound x) = hole
+
+abbrev emptied : FormulaTree → FormulaTree
+emptied f = replaced holed_atom (λ x. x) f
+
+abbrev all_emptied : FormulaTrees → FormulaTrees
+all_emptied fs = all_replaced holed_atom (λ x. x) fs
+
+-- a formula is the same but for the names in its holes
+abbrev IsSameBut : written.Formula → Type 0
+IsSameBut f = (k : ℕ) → emptied (named_tree k f) ≡ emptied (formula_tree f)
+
+-- the same of formulas with fewer nodes
+abbrev AreSameBelow : ℕ → Type 0
+AreSameBelow n = (f : written.Formula) → nodes (formula_tree f) < n → IsSameBut f
+
+members_same : (n : ℕ) → AreSameBelow n → (fs : List written.Formula) → all_nodes (formulas_of (map formula_tree fs)) < n → (k : ℕ) → all_emptied ((all_of (map whole_formula fs)).named k) ≡ all_emptied (formulas_of (map formula_tree fs))
+unfolding named_tree
+members_same n below [] l k = refl
+members_same n below (f ∷ fs) l k =
+    let fewer : nodes (formula_tree f) < n = omega arith in
+    let rest : all_nodes (formulas_of (map formula_tree fs)) < n = omega arith in
+    ap₂ (λ g gs. plain.also g gs) (below f fewer k) (members_same n below fs rest (k + command_count (whole_formula f).inner))
+
+all_same : (n : ℕ) → AreSameBelow n → (fs : writtens.Formulas) → all_nodes (formula_trees fs) < n → (k : ℕ) → all_emptied (named_trees k fs) ≡ all_emptied (formula_trees fs)
+unfolding named_trees
+all_same n below fs l k =
+    let items = (writtens.out-Formulas fs).list.items in
+    let e = formulas-out fs in
+    let fewer : all_nodes (formulas_of (map formula_tree items)) < n = omega (arith, ap all_nodes e) in
+    ap (λ (h : Holed FormulaTrees). all_emptied (h.named k)) (wholes-out fs) ∙ members_same n below items fewer k ∙ ap all_emptied (sym e)
+
+-- a formula is what is made of its parts
+made : (f g : written.Formula) (k : ℕ) (s t : FormulaTree) → f ≡ g → named_tree k f ≡ s → formula_tree f ≡ t → emptied s ≡ emptied t → emptied (named_tree k g) ≡ emptied (formula_tree g)
+made f g k s t e named plain same = subst (λ (h : written.Formula). emptied (named_tree k h) ≡ emptied (formula_tree h)) e (ap emptied named ∙ same ∙ ap emptied (sym plain))
+
+one_more : (n : ℕ) → AreSameBelow n → AreSameBelow (suc n)
+one_more n below f l k = at (written.out-Formula f) (written.roll-out-Formula f)
+  where
+    at : (m : layer.Formula-F written.Formula commands.InnerCommand writtens.Formulas) → written.roll-Formula m ≡ f → emptied (named_tree k f) ≡ emptied (formula_tree f)
+    at layer.True e = made formula.True f k _ _ (sym formula.rolls-True ∙ e) (named-True k) formula-True refl
+    at layer.False e = made formula.False f k _ _ (sym formula.rolls-False ∙ e) (named-False k) formula-False refl
+    at (layer.Compare r s t) e = made (formula.Compare r s t) f k _ _ (sym (formula.rolls-Compare r s t) ∙ e) (named-Compare k r s t) (formula-Compare r s t) refl
+    at (layer.Cong s t m) e = made (formula.Cong s t m) f k _ _ (sym (formula.rolls-Cong s t m) ∙ e) (named-Cong k s t m) (formula-Cong s t m) refl
+    at (layer.Ncong s t m) e = made (formula.Ncong s t m) f k _ _ (sym (formula.rolls-Ncong s t m) ∙ e) (named-Ncong k s t m) (formula-Ncong s t m) refl
+    at (layer.Not g) e =
+        let is : formula.Not g ≡ f = sym (formula.rolls-Not g) ∙ e in
+        let fewer : nodes (formula_tree g.value) < n = omega (arith, l, ap (λ h. nodes (formula_tree h)) is, ap nodes (formula-Not g)) in
+        made (formula.Not g) f k _ _ is (named-Not k g) (formula-Not g) (ap plain.Not (below g.value fewer k))
+    at (layer.And gs) e =
+        let is : formula.And gs ≡ f = sym (formula.rolls-And gs) ∙ e in
+        let fewer : all_nodes (formula_trees gs) < n = omega (arith, l, ap (λ h. nodes (formula_tree h)) is, ap nodes (formula-And gs)) in
+        made (formula.And gs) f k _ _ is (named-And k gs) (formula-And gs) (ap plain.And (all_same n below gs fewer k))
+    at (layer.Or gs) e =
+        let is : formula.Or gs ≡ f = sym (formula.rolls-Or gs) ∙ e in
+        let fewer : all_nodes (formula_trees gs) < n = omega (arith, l, ap (λ h. nodes (formula_tree h)) is, ap nodes (formula-Or gs)) in
+        made (formula.Or gs) f k _ _ is (named-Or k gs) (formula-Or gs) (ap plain.Or (all_same n below gs fewer k))
+    at (layer.Impl g h) e =
+        let is : formula.Impl g h ≡ f = sym (formula.rolls-Impl g h) ∙ e in
+        let fewer : (nodes (formula_tree g.value) + nodes (formula_tree h.value)) < n = omega (arith, l, ap (λ h. nodes (formula_tree h)) is, ap nodes (formula-Impl g h)) in
+        made (formula.Impl g h) f k _ _ is (named-Impl k g h) (formula-Impl g h) (ap₂ (λ s t. plain.Impl s t) (below g.value (omega (arith, fewer)) k) (below h.value (omega (arith, fewer)) (k + command_count (inner_of g.value))))
+    at (layer.Repl g h) e =
+        let is : formula.Repl g h ≡ f = sym (formula.rolls-Repl g h) ∙ e in
+        let fewer : (nodes (formula_tree g.value) + nodes (formula_tree h.value)) < n = omega (arith, l, ap (λ h. nodes (formula_tree h)) is, ap nodes (formula-Repl g h)) in
+        made (formula.Repl g h) f k _ _ is (named-Repl k g h) (formula-Repl g h) (ap₂ (λ s t. plain.Repl s t) (below g.value (omega (arith, fewer)) k) (below h.value (omega (arith, fewer)) (k + command_count (inner_of g.value))))
+    at (layer.Equiv g h) e =
+        let is : formula.Equiv g h ≡ f = sym (formula.rolls-Equiv g h) ∙ e in
+        let fewer : (nodes (formula_tree g.value) + nodes (formula_tree h.value)) < n = omega (arith, l, ap (λ h. nodes (formula_tree h)) is, ap nodes (formula-Equiv g h)) in
+        made (formula.Equiv g h) f k _ _ is (named-Equiv k g h) (formula-Equiv g h) (ap₂ (λ s t. plain.Equiv s t) (below g.value (omega (arith, fewer)) k) (below h.value (omega (arith, fewer)) (k + command_count (inner_of g.value))))
+    at (layer.Ex x g) e =
+        let is : formula.Ex x g ≡ f = sym (formula.rolls-Ex x g) ∙ e in
+        let fewer : nodes (formula_tree g.value) < n = omega (arith, l, ap (λ h. nodes (formula_tree h)) is, ap nodes (formula-Ex x g)) in
+        made (formula.Ex x g) f k _ _ is (named-Ex k x g) (formula-Ex x g) (ap (plain.Ex x) (below g.value fewer k))
+    at (layer.All x g) e =
+        let is : formula.All x g ≡ f = sym (formula.rolls-All x g) ∙ e in
+        let fewer : nodes (formula_tree g.value) < n = omega (arith, l, ap (λ h. nodes (formula_tree h)) is, ap nodes (formula-All x g)) in
+        made (formula.All x g) f k _ _ is (named-All k x g) (formula-All x g) (ap (plain.All x) (below g.value fewer k))
+    at (layer.Named x) e = made (formula.Named x) f k _ _ (sym (formula.rolls-Named x) ∙ e) (named-Named k x) (formula-Named x) refl
+    at (layer.Computed c) e = made (formula.Computed c) f k _ _ (sym (formula.rolls-Computed c) ∙ e) (named-Computed k c) (formula-Computed c) refl
+
+below_all : (n : ℕ) → AreSameBelow n
+below_all zero f l k = absurd (omega (arith, l))
+below_all (suc n) f l k = one_more n (below_all n) f l k
+
+-- names in the holes change nothing else
+same_but : (f : written.Formula) (k : ℕ) → emptied (named_tree k f) ≡ emptied (formula_tree f)
+same_but f k = below_all (suc (nodes (formula_tree f))) f (omega arith) k
+
+mutual
+  variables_emptied : (f : FormulaTree) → formula_variables (emptied f) ≡ formula_variables f
+  variables_emptied plain.Yes = refl
+  variables_emptied plain.No = refl
+  variables_emptied (One (Compare rel s t)) = refl
+  variables_emptied (One (Cong s t m)) = refl
+  variables_emptied (One (Ncong s t m)) = refl
+  variables_emptied (One (Bound x)) = refl
+  variables_emptied (plain.Not f) = variables_emptied f
+  variables_emptied (plain.And fs) = all_variables_emptied fs
+  variables_emptied (plain.Or fs) = all_variables_emptied fs
+  variables_emptied (plain.Impl f g) = ap₂ (λ xs ys. xs ++ ys) (variables_emptied f) (variables_emptied g)
+  variables_emptied (plain.Repl f g) = ap₂ (λ xs ys. xs ++ ys) (variables_emptied f) (variables_emptied g)
+  variables_emptied (plain.Equiv f g) = ap₂ (λ xs ys. xs ++ ys) (variables_emptied f) (variables_emptied g)
+  variables_emptied (plain.Ex x f) = ap (λ xs. x ∷ xs) (variables_emptied f)
+  variables_emptied (plain.All x f) = ap (λ xs. x ∷ xs) (variables_emptied f)
+
+  all_variables_emptied : (fs : FormulaTrees) → all_variables (all_emptied fs) ≡ all_variables fs
+  all_variables_emptied plain.none = refl
+  all_variables_emptied (plain.also f fs) = ap₂ (λ xs ys. xs ++ ys) (variables_emptied f) (all_variables_emptied fs)
+
+-- so the variables are the same
+pub variables_named : (f : written.Formula) (k : ℕ) → formula_variables (named_tree k f) ≡ formula_variables (formula_tree f)
+variables_named f k = sym (variables_emptied (named_tree k f)) ∙ ap formula_variables (same_but f k) ∙ variables_emptied (formula_tree f)
