@@ -1,5 +1,5 @@
 -- The terminals of a tree spell its written formula.
-use Rattle.std.proofs.Common.{◌≡◌, ℕ, Bool, true, false, List, [], ◌∷◌, ◌++◌, map, sym, refl, ap, ◌∙◌, subst, append_assoc}
+use Rattle.std.proofs.Common.{◌≡◌, ℕ, Bool, true, false, List, [], ◌∷◌, ◌++◌, map, Some, None, sym, refl, ap, ◌∙◌, subst, append_assoc}
 use Rattle.std.specs.Prelude.{ℤ, pos, negsuc, unsigned_abs, nat_eq, if◌then◌else◌}
 use Rattle.std.specs.Ordering.{int_eq}
 use Rattle.formula_meaning.specs.Formula.{Yes, No, One, Not, And, Or, Impl, Repl, Equiv, Ex, All, none, also}
@@ -7,16 +7,19 @@ use Rattle.formula_meaning.specs.Form.{Term}
 use Rattle.formula_meaning.specs.Atom.{Atom, Compare, Congruent}
 use Rattle.formula_meaning.specs.Tree.{Tree, Trees}
 use Rattle.formula_meaning.specs.Replaced.{all_replaced}
-use Rattle.qe_syntax.specs.Trees.{TermTree, Named, Product, terms_of, FormulaTree, FormulaTrees, formulas_of}
-use Rattle.statement_syntax.specs.Statements.{Echo, Say}
+use Rattle.qe_syntax.specs.Trees.{TermTree, Named, Product, terms_of, Bound, FormulaTree, FormulaTrees}
+use Rattle.qe_syntax.specs.Holes.{alone, whole, over, over_both, all_of, command_alone}
+use Rattle.statement_syntax.specs.Statements.{Echo}
+use Rattle.statement_syntax.specs.Inner.{about, command_in}
 use Rattle.redlog_tokens.specs.declared.terminal.Terminal.TheVariants as terminal
 use Rattle.redlog_tokens.specs.declared.terminal.Mark.TheVariants as mark
 use Rattle.redlog_tokens.specs.declared.terminal.Word.TheVariants as word
-use Rattle.redlog_reader.specs.Grammar.{sum_of, conjunction_of, disjunction_of}
+use Rattle.redlog_reader.specs.Grammar.{Written, sum_of, conjunction_of, disjunction_of, result_of}
 use Rattle.redlog_reader.specs.Grammar as grammar
 use Rattle.redlog_printer.specs.Text.{name_at, is_compound}
 use Rattle.formula_meaning.specs.Members.{HasTwoMembers, HaveTwoMembers}
 use Rattle.printed_formulas.specs.Written.{number_term, signed_term, factor_term, multiple_term, constant_term, later_constant_terms, member_terms, relation_sign, written_atom, written_formula}
+use Rattle.printed_formulas.specs.Round.{printed_echo}
 use Rattle.printed_formulas.specs.Printed.{Terminals, number, first_mark, later_mark, factor_terminals, multiple_terminals, later_terminals, constant_terminals, sum_terminals, atom_terminals, bracketed, tree_terminals, more_terminals, line_terminals}
 
 no_more : {X : Type 0} (xs : List X) → xs ++ [] ≡ xs
@@ -78,7 +81,7 @@ number_sum n ts = grammar.sum (number_spelled n ts) (grammar.no_member refl)
 
 -- ---- atoms, where they are members or arguments
 
-atom_spelled : (names : List (List ℕ)) (a : Atom) (rest : Terminals) → grammar.SpellsNegation (atom_terminals names a rest) (One (written_atom names a)) rest
+atom_spelled : (names : List (List ℕ)) (a : Atom) (rest : Terminals) → grammar.SpellsNegation (atom_terminals names a rest) (whole (One (written_atom names a))) rest
 atom_spelled names (Compare r f) rest =
     grammar.compared (grammar.comparison (sum_spelled names f.terms f.constant (terminal.Relation (relation_sign r) ∷ number 0 ∷ rest)) grammar.relation_sign (number_sum 0 rest))
 atom_spelled names (Congruent true m f) rest =
@@ -88,61 +91,61 @@ atom_spelled names (Congruent false m f) rest =
 
 -- ---- looser
 
-to_conjunction : {ts rest : Terminals} {f : FormulaTree} → grammar.SpellsNegation ts f rest → grammar.SpellsConjunction ts f rest
+to_conjunction : {ts rest : Terminals} {f : Written} → grammar.SpellsNegation ts f rest → grammar.SpellsConjunction ts f rest
 to_conjunction n = grammar.conjunction n (grammar.no_conjunct refl)
 
-from_conjunction : {ts rest : Terminals} {f : FormulaTree} → grammar.SpellsConjunction ts f rest → grammar.SpellsDisjunction ts f rest
+from_conjunction : {ts rest : Terminals} {f : Written} → grammar.SpellsConjunction ts f rest → grammar.SpellsDisjunction ts f rest
 from_conjunction n = grammar.disjunction n (grammar.no_disjunct refl)
 
-from_implication : {ts rest : Terminals} {f : FormulaTree} → grammar.SpellsImplication ts f rest → grammar.SpellsFormula ts f rest
+from_implication : {ts rest : Terminals} {f : Written} → grammar.SpellsImplication ts f rest → grammar.SpellsFormula ts f rest
 from_implication n = grammar.equivalence (grammar.replication n (grammar.no_repl refl)) (grammar.no_equiv refl)
 
-from_disjunction : {ts rest : Terminals} {f : FormulaTree} → grammar.SpellsDisjunction ts f rest → grammar.SpellsFormula ts f rest
+from_disjunction : {ts rest : Terminals} {f : Written} → grammar.SpellsDisjunction ts f rest → grammar.SpellsFormula ts f rest
 from_disjunction n = from_implication (grammar.no_implication n)
 
-to_disjunction : {ts rest : Terminals} {f : FormulaTree} → grammar.SpellsNegation ts f rest → grammar.SpellsDisjunction ts f rest
+to_disjunction : {ts rest : Terminals} {f : Written} → grammar.SpellsNegation ts f rest → grammar.SpellsDisjunction ts f rest
 to_disjunction n = from_conjunction (to_conjunction n)
 
-to_implication : {ts rest : Terminals} {f : FormulaTree} → grammar.SpellsNegation ts f rest → grammar.SpellsImplication ts f rest
+to_implication : {ts rest : Terminals} {f : Written} → grammar.SpellsNegation ts f rest → grammar.SpellsImplication ts f rest
 to_implication n = grammar.no_implication (to_disjunction n)
 
-to_formula : {ts rest : Terminals} {f : FormulaTree} → grammar.SpellsNegation ts f rest → grammar.SpellsFormula ts f rest
+to_formula : {ts rest : Terminals} {f : Written} → grammar.SpellsNegation ts f rest → grammar.SpellsFormula ts f rest
 to_formula n = from_disjunction (to_disjunction n)
 
 -- ---- formulas
 
--- the members as a list
-abbrev listed : FormulaTrees → List FormulaTree
+-- the members as a list, none of which has a command inside
+abbrev listed : FormulaTrees → List Written
 listed none = []
-listed (also f fs) = f ∷ listed fs
+listed (also f fs) = whole f ∷ listed fs
 
-listed_back : (fs : FormulaTrees) → formulas_of (listed fs) ≡ fs
+listed_back : (fs : FormulaTrees) → all_of (listed fs) ≡ whole fs
 listed_back none = refl
-listed_back (also f fs) = ap (also f) (listed_back fs)
+listed_back (also f fs) = ap (over_both also (whole f)) (listed_back fs)
 
 module _ (names : List (List ℕ)) where
-  abbrev written : Tree → FormulaTree
-  written f = written_formula names f
+  abbrev written : Tree → Written
+  written f = whole (written_formula names f)
 
   abbrev all_written : Trees → FormulaTrees
   all_written fs = all_replaced (λ a. One (written_atom names a)) (name_at names) fs
 
   -- the terminals spell the formula, as a whole and where it is a member or an argument
   record Spelling (f : Tree) : Type 0 where
-    whole : (rest : Terminals) → grammar.SpellsFormula (tree_terminals names f rest) (written f) rest
+    formula : (rest : Terminals) → grammar.SpellsFormula (tree_terminals names f rest) (written f) rest
     argument : (rest : Terminals) → grammar.SpellsNegation (bracketed (is_compound f) (tree_terminals names f) rest) (written f) rest
 
   -- one that stands without parentheses
   bare : (f : Tree) → is_compound f ≡ false → ((rest : Terminals) → grammar.SpellsNegation (tree_terminals names f rest) (written f) rest) → Spelling f
   bare f e n = record {
-    whole = λ rest. to_formula (n rest);
+    formula = λ rest. to_formula (n rest);
     argument = λ rest. subst (λ b. grammar.SpellsNegation (bracketed b (tree_terminals names f) rest) (written f) rest) (sym e) (n rest);
   }
 
   -- one that stands in parentheses
   compound : (f : Tree) → is_compound f ≡ true → ((rest : Terminals) → grammar.SpellsFormula (tree_terminals names f rest) (written f) rest) → Spelling f
   compound f e n = record {
-    whole = n;
+    formula = n;
     argument = λ rest. subst (λ b. grammar.SpellsNegation (bracketed b (tree_terminals names f) rest) (written f) rest) (sym e) (grammar.prime (grammar.inner_formula (n (terminal.Mark mark.Close ∷ rest))));
   }
 
@@ -157,13 +160,13 @@ module _ (names : List (List ℕ)) where
     spelled (And (also f (also g fs))) h =
         let s = spelled f h.1.0 in
         compound (And (also f (also g fs))) refl (λ rest. from_disjunction (from_conjunction (grammar.conjunction (s.argument _)
-        (conjuncts_spelled (also g fs) h.1.1 (written f ∷ []) rest _ (ap (λ gs. And (also (written f) (also (written g) gs))) (sym (listed_back (all_written fs))))))))
+        (conjuncts_spelled (also g fs) h.1.1 (written f ∷ []) rest _ (ap (λ gs. over And (over_both also (written f) (over_both also (written g) gs))) (sym (listed_back (all_written fs))))))))
     spelled (Or none) h = absurd h.0
     spelled (Or (also f none)) h = absurd h.0
     spelled (Or (also f (also g fs))) h =
         let s = spelled f h.1.0 in
         compound (Or (also f (also g fs))) refl (λ rest. from_disjunction (grammar.disjunction (to_conjunction (s.argument _))
-        (disjuncts_spelled (also g fs) h.1.1 (written f ∷ []) rest _ (ap (λ gs. Or (also (written f) (also (written g) gs))) (sym (listed_back (all_written fs)))))))
+        (disjuncts_spelled (also g fs) h.1.1 (written f ∷ []) rest _ (ap (λ gs. over Or (over_both also (written f) (over_both also (written g) gs))) (sym (listed_back (all_written fs)))))))
     spelled (Impl f g) h =
         let s = spelled f h.0 in let t = spelled g h.1 in
         compound (Impl f g) refl (λ rest. from_implication (grammar.implication (to_disjunction (s.argument _)) (to_implication (t.argument rest))))
@@ -173,16 +176,16 @@ module _ (names : List (List ℕ)) where
     spelled (Equiv f g) h =
         let s = spelled f h.0 in let t = spelled g h.1 in
         compound (Equiv f g) refl (λ rest. grammar.equivalence (grammar.replication (to_implication (s.argument _)) (grammar.no_repl refl)) (grammar.equiv (grammar.replication (to_implication (t.argument rest)) (grammar.no_repl refl)) (grammar.no_equiv refl)))
-    spelled (Ex x f) h = let s = spelled f h in bare (Ex x f) refl (λ rest. grammar.prime (grammar.exists grammar.one_name (s.whole _) refl))
-    spelled (All x f) h = let s = spelled f h in bare (All x f) refl (λ rest. grammar.prime (grammar.for_all grammar.one_name (s.whole _) refl))
+    spelled (Ex x f) h = let s = spelled f h in bare (Ex x f) refl (λ rest. grammar.prime (grammar.exists grammar.one_name (s.formula _) refl))
+    spelled (All x f) h = let s = spelled f h in bare (All x f) refl (λ rest. grammar.prime (grammar.for_all grammar.one_name (s.formula _) refl))
 
-    conjuncts_spelled : (fs : Trees) → HaveTwoMembers fs → (before : List FormulaTree) (rest : Terminals) (g : FormulaTree) → g ≡ conjunction_of (before ++ listed (all_written fs)) → grammar.Conjuncts before (more_terminals names word.And fs rest) g rest
+    conjuncts_spelled : (fs : Trees) → HaveTwoMembers fs → (before : List Written) (rest : Terminals) (g : Written) → g ≡ conjunction_of (before ++ listed (all_written fs)) → grammar.Conjuncts before (more_terminals names word.And fs rest) g rest
     conjuncts_spelled none h before rest g e = grammar.no_conjunct (e ∙ ap conjunction_of (no_more before))
     conjuncts_spelled (also f fs) h before rest g e =
         let s = spelled f h.0 in
         grammar.conjunct (s.argument _) (conjuncts_spelled fs h.1 (before ++ written f ∷ []) rest g (e ∙ ap conjunction_of (sym (append_assoc before (written f ∷ []) (listed (all_written fs))))))
 
-    disjuncts_spelled : (fs : Trees) → HaveTwoMembers fs → (before : List FormulaTree) (rest : Terminals) (g : FormulaTree) → g ≡ disjunction_of (before ++ listed (all_written fs)) → grammar.Disjuncts before (more_terminals names word.Or fs rest) g rest
+    disjuncts_spelled : (fs : Trees) → HaveTwoMembers fs → (before : List Written) (rest : Terminals) (g : Written) → g ≡ disjunction_of (before ++ listed (all_written fs)) → grammar.Disjuncts before (more_terminals names word.Or fs rest) g rest
     disjuncts_spelled none h before rest g e = grammar.no_disjunct (e ∙ ap disjunction_of (no_more before))
     disjuncts_spelled (also f fs) h before rest g e =
         let s = spelled f h.0 in
@@ -190,5 +193,15 @@ module _ (names : List (List ℕ)) where
 
 -- ---- the statement
 
-pub line_spelled : (names : List (List ℕ)) (f : Tree) → HasTwoMembers f → grammar.SpellsStatement (line_terminals names f) (record { action = Say (Echo (written_formula names f)); printed = true })
-line_spelled names f h = let s = spelled names f h in grammar.acting {printed = true} (grammar.result (grammar.echo (s.whole _))) refl
+no_command : (f : FormulaTree) → command_alone f alone ≡ None
+no_command (One (Bound [])) = refl
+no_command _ = refl
+
+-- a formula in which no command stands is printed as it is
+printed_whole : (f : FormulaTree) → about Echo (whole f) ≡ result_of (whole f)
+printed_whole f = ap (λ o. elim o [ None ↦ about Echo (whole f) | Some n ↦ command_in n ]) (sym (no_command f))
+
+pub line_spelled : (names : List (List ℕ)) (f : Tree) → HasTwoMembers f → grammar.SpellsStatement (line_terminals names f) (printed_echo (written_formula names f))
+line_spelled names f h =
+    let s = spelled names f h in
+    grammar.acting {printed = true} (grammar.result (grammar.resulting {c = about Echo (whole (written_formula names f))} (s.formula _) (printed_whole (written_formula names f)))) refl

@@ -10,6 +10,7 @@ use Rattle.formula_meaning.specs.Sizes.{height}
 use Rattle.atom_normal.specs.NormalForm.{IsNormal}
 use Rattle.qe_syntax.specs.Names.{IsVariable}
 use Rattle.qe_syntax.specs.Trees.{FormulaTree}
+use Rattle.qe_syntax.specs.Holes.{alone}
 use Rattle.qe_syntax.specs.Value.{same_name}
 use Rattle.statement_syntax.specs.Statements.{StatementTree, Say, Echo}
 use Rattle.redlog_reader.specs.declared.read.TheConstants.{BYTE_LIMIT}
@@ -53,16 +54,16 @@ pub record IsResolved (c : Context) (f : Tree) : Type 0 where
 abbrev pub line_text : List (List ℕ) → Tree → List ℕ
 line_text names f = tree_text names f ++ codes ";"
 
--- The text is no longer and no deeper than the reader takes it: 1 MiB, and 512 levels.
+-- The text is no longer and no deeper than the reader takes it: 4 MiB, and 512 levels.
 pub record IsReadable (names : List (List ℕ)) (f : Tree) : Type 0 where
   pub short : length (line_text names f) ≤ BYTE_LIMIT
   pub shallow : tree_level f ≤ LEVEL_LIMIT
 
 -- ---- what is proved
 
--- the statement that prints a formula
+-- the statement that prints a formula, in which no command stands
 abbrev pub printed_echo : FormulaTree → StatementTree
-printed_echo f = record { action = Say (Echo f); printed = true }
+printed_echo f = record { action = Say (Echo f); printed = true; inner = alone }
 
 -- the bytes spell this one statement
 pub record SpellsAlone (bytes : List ℕ) (s : StatementTree) : Type 0 where

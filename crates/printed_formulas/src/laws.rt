@@ -4,7 +4,7 @@ ghost use Rattle.printed_formulas.specs.Round.{TextSpells, WrittenIsResolved, Te
 
 /// The text of a tree with `;` behind it spells one statement, which prints the written formula of the tree. The names
 /// are variables that a script can write, each once; the numbers are within the limit; conjunctions and disjunctions
-/// have at least two members; the text is at most 1 MiB long and 512 levels deep.
+/// have at least two members; the text is at most 4 MiB long and 512 levels deep.
 pub fn printed_text_spells()
     ensures { TextSpells }
 {}

@@ -9,8 +9,11 @@ use Rattle.statement_syntax.specs.declared.grid.Ratio.{Ratio}
 use Rattle.statement_syntax.specs.declared.grid.GridAxis.{GridAxis}
 use Rattle.statement_syntax.specs.Constraints.{is_constraint, is_weak_constraint}
 use Rattle.formula_meaning.specs.Formula.{One}
-use Rattle.qe_syntax.specs.Trees.{TermTree, Compare, FormulaTree, formulas_of}
-use Rattle.statement_syntax.specs.Statements.{CommandTree, Echo, Nnf, Pnf, Dnf, Cnf, Simpl, Qe, Qea, Holds, Sample, Grid, Certify, Check, Least, ActionTree, Empty, Ignored, Choose, Say, Assign, Assume, StatementTree}
+use Rattle.qe_syntax.specs.Trees.{TermTree, Compare}
+use Rattle.qe_syntax.specs.Holes.{whole, all_of}
+use Rattle.qe_syntax.specs.Holes as inside
+use Rattle.statement_syntax.specs.Statements.{CommandTree, Qea, Holds, Sample, Grid, Certify, Check, Least, ActionTree, Empty, Ignored, Choose, Say, Assign, Assume, StatementTree}
+use Rattle.statement_syntax.specs.Inner.{WithInner, bare, around, about, about_all, about_under}
 use Rattle.redlog_tokens.specs.declared.terminal.Terminal.{Terminal}
 use Rattle.redlog_tokens.specs.declared.terminal.Terminal.TheVariants as terminal
 use Rattle.redlog_tokens.specs.declared.terminal.Mark.{Mark}
@@ -18,9 +21,9 @@ use Rattle.redlog_tokens.specs.declared.terminal.Mark.TheVariants as mark
 use Rattle.redlog_tokens.specs.declared.terminal.Word.{Word}
 use Rattle.redlog_tokens.specs.declared.terminal.Word.TheVariants as word
 use Rattle.redlog_reader.specs.Machine.{Reading, term_of, formula_of, Wants, Held, Stops, strength, run, operated}
-use Rattle.redlog_reader.specs.Grammar.{SpellsFactor, SpellsPower, first_power, raised, product, SpellsSum, sum, IsRelation, relation_sign, relation_word, SpellsComparison, comparison, SpellsCongruence, congruent, incongruent, SpellsAtom, compared_atom, congruent_atom}
-use Rattle.redlog_reader.specs.Grammar.{SpellsPrime, truth, falsity, named_formula, congruence, inner_formula, exists, for_all, SpellsFormula, IsAny, any_name, any_word, SpellsAnys, last_any, more_anys, opposite, Above, unsigned, opposed, Below, one, divided, SpellsEntry, entry, Listed, last_item, more_items, Braced, empty, listed, SpellsPoint, SpellsAtoms}
-use Rattle.redlog_reader.specs.Grammar.{SpellsArgument, alone, under, SpellsResult, echo, nnf, pnf, dnf, cnf, simpl, qe, SpellsRatio, ratio, SpellsAxis, axis, SpellsBound, bound, SpellsBounds, SpellsWeak, weak, SpellsWeaks, SpellsWholes, SpellsQuery, qea, holds, witness, grid, certify, check, least, SpellsAction, assign, result, query, choose, load, on, off, assume, retract, end, bye, quit, end_mark, SpellsStatement, nothing, acting}
+use Rattle.redlog_reader.specs.Grammar.{Written, SpellsFactor, SpellsPower, first_power, raised, product, SpellsSum, sum, IsRelation, relation_sign, relation_word, SpellsComparison, comparison, SpellsCongruence, congruent, incongruent, SpellsAtom, compared_atom, congruent_atom}
+use Rattle.redlog_reader.specs.Grammar.{SpellsPrime, truth, falsity, named_formula, congruence, inner_formula, exists, for_all, inner_command, inner_under, SpellsFormula, IsAny, any_name, any_word, SpellsAnys, last_any, more_anys, opposite, Above, unsigned, opposed, Below, one, divided, SpellsEntry, entry, Listed, last_item, more_items, Braced, empty, listed, SpellsPoint, SpellsAtoms}
+use Rattle.redlog_reader.specs.Grammar.{SpellsArgument, alone, under, result_of, SpellsResult, resulting, SpellsRatio, ratio, SpellsAxis, axis, SpellsBound, bound, SpellsBounds, SpellsWeak, weak, SpellsWeaks, SpellsWholes, SpellsQuery, qea, holds, witness, grid, certify, check, least, SpellsAction, assign, result, query, choose, load, on, off, assume, retract, end, bye, quit, end_mark, SpellsStatement, nothing, acting}
 use Rattle.redlog_reader.specs.Reader.{on_some, after_mark, formula_read, sum_read, relation_of, relation_read, comparison_read, begins_congruence, atom_read, bound_read, weak_read, items_read, braced_read, negated_literal, above_read, below_read, entry_read, ratio_read, axis_read, argument_read, pointed_read, grid_read, certified_read, checked_read, least_read, result_read, is_any, anys_read, said, action_read, ending, statement_read}
 use Rattle.std.proofs.lemmas.Bool.{lt-ltb}
 use Rattle.std.proofs.lemmas.Int.{ints}
@@ -28,7 +31,7 @@ use Rattle.std.specs.Prelude.{negsuc}
 use Rattle.qe_syntax.specs.Proper.{IsNumeral}
 use Rattle.redlog_tokens.proofs.ProperTokens.{AreProperTerminals}
 use Rattle.redlog_reader.proofs.Proper.{proper_above, proper_entry, proper_formula, proper_ratio, proper_axis, proper_bounds}
-use Rattle.redlog_reader.proofs.Steps.{outcome, no_power}
+use Rattle.redlog_reader.proofs.Steps.{outcome}
 use Rattle.redlog_reader.proofs.CompleteTerms.{complete_sum}
 use Rattle.redlog_reader.proofs.CompleteFormulas.{complete_prime, complete_formula}
 use Rattle.redlog_reader.proofs.Options.{is_some, is_none, anys_more, anys_last}
@@ -38,19 +41,19 @@ use Rattle.redlog_reader.proofs.Items.{LeavesLess, items_more, items_last, items
 stopped : (goal : ℕ) (t : Terminal) (ts : List Terminal) (h : Reading) → goal < strength t → run goal (t ∷ ts) [] (Held h) ≡ Some (h, t ∷ ts)
 stopped goal t ts h less = ap (λ b. outcome goal t ts (if b then Stops h else operated goal t [] h)) (lt-ltb goal (strength t) less)
 
-read_formula : (goal : ℕ) (ts : List Terminal) (h : Reading) (f : FormulaTree) (rest : List Terminal) → formula_of h ≡ Some f → run goal ts [] Wants ≡ Some (h, rest) → formula_read goal ts ≡ Some (f, rest)
+read_formula : (goal : ℕ) (ts : List Terminal) (h : Reading) (f : Written) (rest : List Terminal) → formula_of h ≡ Some f → run goal ts [] Wants ≡ Some (h, rest) → formula_read goal ts ≡ Some (f, rest)
 read_formula goal ts h f rest is runs =
     is_some (run goal ts [] Wants) (h, rest) (λ p. on_some (formula_of p.0) (λ f. Some (f, p.1)) None) None runs ∙ is_some (formula_of h) f (λ f. Some (f, rest)) None is
 
-formula_done : {ts rest : List Terminal} {t : Terminal} {f : FormulaTree} → SpellsFormula ts f (t ∷ rest) → 8 < strength t → formula_read 8 ts ≡ Some (f, t ∷ rest)
+formula_done : {ts rest : List Terminal} {t : Terminal} {f : Written} → SpellsFormula ts f (t ∷ rest) → 8 < strength t → formula_read 8 ts ≡ Some (f, t ∷ rest)
 formula_done {ts = ts} {rest = rest} {t = t} {f = f} p less =
     let found = complete_formula 8 [] p (omega arith) less in
     read_formula 8 ts found.reading f (t ∷ rest) found.is (found.runs ∙ stopped 8 t rest found.reading less)
 
-prime_done : {ts rest : List Terminal} {t : Terminal} {f : FormulaTree} → SpellsPrime ts f (t ∷ rest) → 8 < strength t → formula_read 0 ts ≡ Some (f, t ∷ rest)
+prime_done : {ts rest : List Terminal} {t : Terminal} {f : Written} → SpellsPrime ts f (t ∷ rest) → 8 < strength t → formula_read 0 ts ≡ Some (f, t ∷ rest)
 prime_done {ts = ts} {rest = rest} {t = t} {f = f} p less =
-    let found = complete_prime 0 [] p in
-    read_formula 0 ts found.reading f (t ∷ rest) found.is (found.runs ∙ no_power 0 (t ∷ rest) [] found.reading (omega (arith, less)) ∙ stopped 0 t rest found.reading (omega (arith, less)))
+    let found = complete_prime 0 [] p (omega (arith, less)) refl in
+    read_formula 0 ts found.reading f (t ∷ rest) found.is (found.runs ∙ stopped 0 t rest found.reading (omega (arith, less)))
 
 sum_done : {ts rest : List Terminal} {t : Terminal} {s : TermTree} → SpellsSum ts s (t ∷ rest) → 2 < strength t → sum_read ts ≡ Some (s, t ∷ rest)
 sum_done {ts = ts} {rest = rest} {t = t} {s = s} p less =
@@ -62,12 +65,12 @@ relation_done : {t : Terminal} {r : Relation} → IsRelation t r → (relation_o
 relation_done relation_sign = (refl, refl)
 relation_done relation_word = (refl, refl)
 
-comparison_done : {ts rest : List Terminal} {t : Terminal} {f : FormulaTree} → SpellsComparison ts f (t ∷ rest) → 8 < strength t → comparison_read ts ≡ Some (f, t ∷ rest)
+comparison_done : {ts rest : List Terminal} {t : Terminal} {f : Written} → SpellsComparison ts f (t ∷ rest) → 8 < strength t → comparison_read ts ≡ Some (f, t ∷ rest)
 comparison_done {ts = ts} {rest = rest} {t = t} (comparison {us = us} {sign = sign} {r = r} {s = s} {t = x} p is q) less =
-    is_some (sum_read ts) (s, sign ∷ us) (λ p. on_some (relation_read p.1) (λ q. on_some (sum_read q.1) (λ r. Some (One (Compare q.0 p.0 r.0), r.1)) None) None) None
+    is_some (sum_read ts) (s, sign ∷ us) (λ p. on_some (relation_read p.1) (λ q. on_some (sum_read q.1) (λ r. Some (whole (One (Compare q.0 p.0 r.0)), r.1)) None) None) None
     (sum_done p (omega (arith, (relation_done is).1)))
-    ∙ is_some (relation_read (sign ∷ us)) (r, us) (λ q. on_some (sum_read q.1) (λ r. Some (One (Compare q.0 s r.0), r.1)) None) None (is_some (relation_of sign) r (λ r. Some (r, us)) None (relation_done is).0)
-    ∙ is_some (sum_read us) (x, t ∷ rest) (λ y. Some (One (Compare r s y.0), y.1)) None (sum_done q (omega (arith, less)))
+    ∙ is_some (relation_read (sign ∷ us)) (r, us) (λ q. on_some (sum_read q.1) (λ r. Some (whole (One (Compare q.0 s r.0)), r.1)) None) None (is_some (relation_of sign) r (λ r. Some (r, us)) None (relation_done is).0)
+    ∙ is_some (sum_read us) (x, t ∷ rest) (λ y. Some (whole (One (Compare r s y.0)), y.1)) None (sum_done q (omega (arith, less)))
 
 -- no sum begins with a word
 factor_no_word : {w : Word} {ts r : List Terminal} {t : TermTree} → SpellsFactor (terminal.Word w ∷ ts) t r → ⊥
@@ -80,16 +83,16 @@ power_no_word (raised p) = factor_no_word p
 sum_no_word : {w : Word} {ts r : List Terminal} {t : TermTree} → SpellsSum (terminal.Word w ∷ ts) t r → ⊥
 sum_no_word (sum (product p n) m) = power_no_word p
 
-comparison_begins : (ts r : List Terminal) {f : FormulaTree} → SpellsComparison ts f r → begins_congruence ts ≡ false
+comparison_begins : (ts r : List Terminal) {f : Written} → SpellsComparison ts f r → begins_congruence ts ≡ false
 comparison_begins [] r p = refl
 comparison_begins (terminal.Word w ∷ ts) r (comparison p is q) = absurd (sum_no_word p)
 comparison_begins (t ∷ ts) r p = refl
 
-congruence_begins : {ts r : List Terminal} {f : FormulaTree} → SpellsCongruence ts f r → begins_congruence ts ≡ true
+congruence_begins : {ts r : List Terminal} {f : Written} → SpellsCongruence ts f r → begins_congruence ts ≡ true
 congruence_begins (congruent p q m) = refl
 congruence_begins (incongruent p q m) = refl
 
-atom_done : {ts rest : List Terminal} {t : Terminal} {f : FormulaTree} → SpellsAtom ts f (t ∷ rest) → 8 < strength t → atom_read ts ≡ Some (f, t ∷ rest)
+atom_done : {ts rest : List Terminal} {t : Terminal} {f : Written} → SpellsAtom ts f (t ∷ rest) → 8 < strength t → atom_read ts ≡ Some (f, t ∷ rest)
 atom_done {ts = ts} {rest = rest} {t = t} (compared_atom p) less = ap (λ b. if b then formula_read 0 ts else comparison_read ts) (comparison_begins ts (t ∷ rest) p) ∙ comparison_done p less
 atom_done {ts = ts} (congruent_atom p) less = ap (λ b. if b then formula_read 0 ts else comparison_read ts) (congruence_begins p) ∙ prime_done (congruence p) less
 
@@ -118,27 +121,27 @@ module _ {X : Type 0} (read : List Terminal → Option (X × List Terminal)) (le
       (no_close closed us (xs, terminal.Mark mark.CloseBrace ∷ rest) items)
       ∙ is_some (items_read read us) (xs, terminal.Mark mark.CloseBrace ∷ rest) (λ p. on_some (after_mark mark.CloseBrace p.1) (λ vs. Some (p.0, vs)) None) None items
 
-braced_atoms : {ts rest : List Terminal} {fs : List FormulaTree} → SpellsAtoms ts fs rest → braced_read atom_read ts ≡ Some (fs, rest)
+braced_atoms : {ts rest : List Terminal} {fs : List Written} → SpellsAtoms ts fs rest → braced_read atom_read ts ≡ Some (fs, rest)
 braced_atoms {ts = ts} {rest = rest} {fs = fs} p =
     braced_done atom_read atom_less SpellsAtom (λ ts. Unit {0}) (λ us r t f good h less. atom_done h less) (λ us r f good h. tt) (λ us h. tt) ts rest fs (λ us. refl) (λ us h. tt) tt p
 
 -- a comparison that meets a test
-tested_done : (meets : FormulaTree → Bool) {ts rest : List Terminal} {t : Terminal} {f : FormulaTree} → SpellsComparison ts f (t ∷ rest) → meets f ≡ true → 8 < strength t
+tested_done : (meets : Written → Bool) {ts rest : List Terminal} {t : Terminal} {f : Written} → SpellsComparison ts f (t ∷ rest) → meets f ≡ true → 8 < strength t
     → on_some (comparison_read ts) (λ p. if meets p.0 then Some p else None) None ≡ Some (f, t ∷ rest)
 tested_done meets {ts = ts} {rest = rest} {t = t} {f = f} p is less =
     is_some (comparison_read ts) (f, t ∷ rest) (λ p. if meets p.0 then Some p else None) None (comparison_done p less) ∙ ap (λ b. if b then Some (f, t ∷ rest) else None) is
 
-bound_done : {ts rest : List Terminal} {t : Terminal} {f : FormulaTree} → SpellsBound ts f (t ∷ rest) → 8 < strength t → bound_read ts ≡ Some (f, t ∷ rest)
-bound_done (bound p is) less = tested_done is_constraint p is less
+bound_done : {ts rest : List Terminal} {t : Terminal} {f : Written} → SpellsBound ts f (t ∷ rest) → 8 < strength t → bound_read ts ≡ Some (f, t ∷ rest)
+bound_done (bound p is) less = tested_done (λ f. is_constraint f.tree) p is less
 
-braced_bounds : {ts rest : List Terminal} {fs : List FormulaTree} → SpellsBounds ts fs rest → braced_read bound_read ts ≡ Some (fs, rest)
+braced_bounds : {ts rest : List Terminal} {fs : List Written} → SpellsBounds ts fs rest → braced_read bound_read ts ≡ Some (fs, rest)
 braced_bounds {ts = ts} {rest = rest} {fs = fs} p =
     braced_done bound_read bound_less SpellsBound (λ ts. Unit {0}) (λ us r t f good h less. bound_done h less) (λ us r f good h. tt) (λ us h. tt) ts rest fs (λ us. refl) (λ us h. tt) tt p
 
-weak_done : {ts rest : List Terminal} {t : Terminal} {f : FormulaTree} → SpellsWeak ts f (t ∷ rest) → 8 < strength t → weak_read ts ≡ Some (f, t ∷ rest)
-weak_done (weak p is) less = tested_done is_weak_constraint p is less
+weak_done : {ts rest : List Terminal} {t : Terminal} {f : Written} → SpellsWeak ts f (t ∷ rest) → 8 < strength t → weak_read ts ≡ Some (f, t ∷ rest)
+weak_done (weak p is) less = tested_done (λ f. is_weak_constraint f.tree) p is less
 
-braced_weaks : {ts rest : List Terminal} {fs : List FormulaTree} → SpellsWeaks ts fs rest → braced_read weak_read ts ≡ Some (fs, rest)
+braced_weaks : {ts rest : List Terminal} {fs : List Written} → SpellsWeaks ts fs rest → braced_read weak_read ts ≡ Some (fs, rest)
 braced_weaks {ts = ts} {rest = rest} {fs = fs} p =
     braced_done weak_read weak_less SpellsWeak (λ ts. Unit {0}) (λ us r t f good h less. weak_done h less) (λ us r f good h. tt) (λ us h. tt) ts rest fs (λ us. refl) (λ us h. tt) tt p
 
@@ -199,19 +202,19 @@ axes_done {ts = ts} {rest = rest} {axes = axes} good p =
     listed_done axis_read axis_less SpellsAxis AreProperTerminals (λ us r t a good h less. axis_done good h) (λ us r a good h. (proper_axis h good).1) (λ us h. h) ts rest (terminal.Mark mark.Close) axes good p (omega arith) refl
 
 abbrev Argument : Type 0
-Argument = (FormulaTree × List FormulaTree) × List Terminal
+Argument = (Written × List Written) × List Terminal
 
-abbrev after_argument : FormulaTree × List Terminal → Option Argument
+abbrev after_argument : Written × List Terminal → Option Argument
 after_argument p =
     on_some (after_mark mark.Close p.1) (λ vs. Some ((p.0, []), vs))
     (on_some (after_mark mark.Comma p.1) (λ vs. on_some (braced_read atom_read vs) (λ q. on_some (after_mark mark.Close q.1) (λ ws. Some ((p.0, q.0), ws)) None) None) None)
 
-prime_argument : {ts rest : List Terminal} {t : Terminal} {f : FormulaTree} → after_mark mark.Open ts ≡ None → SpellsPrime ts f (t ∷ rest) → 8 < strength t → argument_read ts ≡ Some ((f, []), t ∷ rest)
-prime_argument {ts = ts} {rest = rest} {t = t} {f = f} bare p less =
-    ap (λ o. on_some o (λ us. on_some (formula_read 8 us) after_argument None) (on_some (formula_read 0 ts) (λ p. let found : Option Argument = Some ((p.0, []), p.1) in found) None)) bare
+prime_argument : {ts rest : List Terminal} {t : Terminal} {f : Written} → after_mark mark.Open ts ≡ None → SpellsPrime ts f (t ∷ rest) → 8 < strength t → argument_read ts ≡ Some ((f, []), t ∷ rest)
+prime_argument {ts = ts} {rest = rest} {t = t} {f = f} unopened p less =
+    ap (λ o. on_some o (λ us. on_some (formula_read 8 us) after_argument None) (on_some (formula_read 0 ts) (λ p. let found : Option Argument = Some ((p.0, []), p.1) in found) None)) unopened
     ∙ is_some (formula_read 0 ts) (f, t ∷ rest) (λ p. let found : Option Argument = Some ((p.0, []), p.1) in found) None (prime_done p less)
 
-argument_done : {ts rest : List Terminal} {t : Terminal} {f : FormulaTree} {given : List FormulaTree} → SpellsArgument ts f given (t ∷ rest) → 8 < strength t → argument_read ts ≡ Some ((f, given), t ∷ rest)
+argument_done : {ts rest : List Terminal} {t : Terminal} {f : Written} {given : List Written} → SpellsArgument ts f given (t ∷ rest) → 8 < strength t → argument_read ts ≡ Some ((f, given), t ∷ rest)
 argument_done (alone truth) less = prime_argument refl truth less
 argument_done (alone falsity) less = prime_argument refl falsity less
 argument_done (alone named_formula) less = prime_argument refl named_formula less
@@ -219,62 +222,47 @@ argument_done (alone (congruence (congruent p q m))) less = prime_argument refl 
 argument_done (alone (congruence (incongruent p q m))) less = prime_argument refl (congruence (incongruent p q m)) less
 argument_done (alone (exists p q is)) less = prime_argument refl (exists p q is) less
 argument_done (alone (for_all p q is)) less = prime_argument refl (for_all p q is) less
+argument_done (alone (inner_command e p is)) less = prime_argument refl (inner_command e p is) less
+argument_done (alone (inner_under e may p q is)) less = prime_argument refl (inner_under e may p q is) less
 argument_done {rest = rest} {t = t} {f = f} (alone (inner_formula {ts = us} p)) less = is_some (formula_read 8 us) (f, terminal.Mark mark.Close ∷ t ∷ rest) after_argument None (formula_done p (omega arith))
 argument_done {rest = rest} {t = t} {f = f} (under {ts = ts} {us = us} {given = given} p q) less =
     is_some (formula_read 8 ts) (f, terminal.Mark mark.Comma ∷ us) after_argument None (formula_done p (omega arith))
     ∙ is_some (braced_read atom_read us) (given, terminal.Mark mark.Close ∷ t ∷ rest) (λ q. on_some (after_mark mark.Close q.1) (λ ws. let found : Option Argument = Some ((f, q.0), ws) in found) None) None (braced_atoms q)
 
-pointed_done : {ts us rest : List Terminal} {f : FormulaTree} {es : List PointEntry} → AreProperTerminals ts → SpellsFormula ts f (terminal.Mark mark.Comma ∷ us) → SpellsPoint us es (terminal.Mark mark.Close ∷ rest)
+pointed_done : {ts us rest : List Terminal} {f : Written} {es : List PointEntry} → AreProperTerminals ts → SpellsFormula ts f (terminal.Mark mark.Comma ∷ us) → SpellsPoint us es (terminal.Mark mark.Close ∷ rest)
     → pointed_read (terminal.Mark mark.Open ∷ ts) ≡ Some ((f, es), rest)
 pointed_done {ts = ts} {us = us} {rest = rest} {f = f} {es = es} good p q =
     is_some (formula_read 8 ts) (f, terminal.Mark mark.Comma ∷ us)
     (λ p. on_some (after_mark mark.Comma p.1) (λ vs. on_some (braced_read entry_read vs) (λ q. on_some (after_mark mark.Close q.1) (λ ws. Some ((p.0, q.0), ws)) None) None) None) None (formula_done p (omega arith))
     ∙ is_some (braced_read entry_read us) (es, terminal.Mark mark.Close ∷ rest) (λ q. on_some (after_mark mark.Close q.1) (λ ws. Some ((f, q.0), ws)) None) None (braced_entries (proper_formula p good).1 q)
 
-grid_done : {ts us rest : List Terminal} {f : FormulaTree} {axes : List GridAxis} → AreProperTerminals ts → SpellsFormula ts f (terminal.Mark mark.Comma ∷ us) → Listed SpellsAxis us axes (terminal.Mark mark.Close ∷ rest)
+grid_done : {ts us rest : List Terminal} {f : Written} {axes : List GridAxis} → AreProperTerminals ts → SpellsFormula ts f (terminal.Mark mark.Comma ∷ us) → Listed SpellsAxis us axes (terminal.Mark mark.Close ∷ rest)
     → grid_read (terminal.Mark mark.Open ∷ ts) ≡ Some ((f, axes), rest)
 grid_done {ts = ts} {us = us} {rest = rest} {f = f} {axes = axes} good p q =
     is_some (formula_read 8 ts) (f, terminal.Mark mark.Comma ∷ us)
     (λ p. on_some (after_mark mark.Comma p.1) (λ vs. on_some (items_read axis_read vs) (λ q. on_some (after_mark mark.Close q.1) (λ ws. Some ((p.0, q.0), ws)) None) None) None) None (formula_done p (omega arith))
     ∙ is_some (items_read axis_read us) (axes, terminal.Mark mark.Close ∷ rest) (λ q. on_some (after_mark mark.Close q.1) (λ ws. Some ((f, q.0), ws)) None) None (axes_done (proper_formula p good).1 q)
 
-certified_done : {ts rest : List Terminal} {fs : List FormulaTree} → SpellsBounds ts fs (terminal.Mark mark.Close ∷ rest) → certified_read (terminal.Mark mark.Open ∷ ts) ≡ Some (fs, rest)
+certified_done : {ts rest : List Terminal} {fs : List Written} → SpellsBounds ts fs (terminal.Mark mark.Close ∷ rest) → certified_read (terminal.Mark mark.Open ∷ ts) ≡ Some (fs, rest)
 certified_done {ts = ts} {rest = rest} {fs = fs} p =
     is_some (braced_read bound_read ts) (fs, terminal.Mark mark.Close ∷ rest) (λ p. on_some (after_mark mark.Close p.1) (λ vs. Some (p.0, vs)) None) None (braced_bounds p)
 
-checked_done : {ts us rest : List Terminal} {fs : List FormulaTree} {ns : List Literal} → AreProperTerminals ts → SpellsBounds ts fs (terminal.Mark mark.Comma ∷ us) → SpellsWholes us ns (terminal.Mark mark.Close ∷ rest)
+checked_done : {ts us rest : List Terminal} {fs : List Written} {ns : List Literal} → AreProperTerminals ts → SpellsBounds ts fs (terminal.Mark mark.Comma ∷ us) → SpellsWholes us ns (terminal.Mark mark.Close ∷ rest)
     → checked_read (terminal.Mark mark.Open ∷ ts) ≡ Some ((fs, ns), rest)
 checked_done {ts = ts} {us = us} {rest = rest} {fs = fs} {ns = ns} good p q =
     is_some (braced_read bound_read ts) (fs, terminal.Mark mark.Comma ∷ us)
     (λ p. on_some (after_mark mark.Comma p.1) (λ vs. on_some (braced_read above_read vs) (λ q. on_some (after_mark mark.Close q.1) (λ ws. Some ((p.0, q.0), ws)) None) None) None) None (braced_bounds p)
     ∙ is_some (braced_read above_read us) (ns, terminal.Mark mark.Close ∷ rest) (λ q. on_some (after_mark mark.Close q.1) (λ ws. Some ((fs, q.0), ws)) None) None (braced_wholes (proper_bounds p good).1 q)
 
-least_done : {ts us rest : List Terminal} {fs : List FormulaTree} {target : TermTree} → SpellsWeaks ts fs (terminal.Mark mark.Comma ∷ us) → SpellsSum us target (terminal.Mark mark.Close ∷ rest)
+least_done : {ts us rest : List Terminal} {fs : List Written} {target : TermTree} → SpellsWeaks ts fs (terminal.Mark mark.Comma ∷ us) → SpellsSum us target (terminal.Mark mark.Close ∷ rest)
     → least_read (terminal.Mark mark.Open ∷ ts) ≡ Some ((fs, target), rest)
 least_done {ts = ts} {us = us} {rest = rest} {fs = fs} {target = target} p q =
     is_some (braced_read weak_read ts) (fs, terminal.Mark mark.Comma ∷ us)
     (λ p. on_some (after_mark mark.Comma p.1) (λ vs. on_some (sum_read vs) (λ q. on_some (after_mark mark.Close q.1) (λ ws. Some ((p.0, q.0), ws)) None) None) None) None (braced_weaks p)
     ∙ is_some (sum_read us) (target, terminal.Mark mark.Close ∷ rest) (λ q. on_some (after_mark mark.Close q.1) (λ ws. Some ((fs, q.0), ws)) None) None (sum_done q (omega arith))
 
-echo_done : (ts : List Terminal) (f : FormulaTree) (rest : List Terminal) → formula_read 8 ts ≡ Some (f, rest) → result_read ts ≡ Some (Echo f, rest)
-echo_done [] f rest e = absurd (let no : ⊥ = cc in no)
-echo_done (terminal.Word word.Nnf ∷ ts) f rest e = absurd (let no : ⊥ = cc in no)
-echo_done (terminal.Word word.Pnf ∷ ts) f rest e = absurd (let no : ⊥ = cc in no)
-echo_done (terminal.Word word.Dnf ∷ ts) f rest e = absurd (let no : ⊥ = cc in no)
-echo_done (terminal.Word word.Cnf ∷ ts) f rest e = absurd (let no : ⊥ = cc in no)
-echo_done (terminal.Word word.Simpl ∷ ts) f rest e = absurd (let no : ⊥ = cc in no)
-echo_done (terminal.Word word.Qe ∷ ts) f rest e = absurd (let no : ⊥ = cc in no)
-echo_done (terminal.Word w ∷ ts) f rest e = ap (λ o. on_some o (λ p. Some (Echo p.0, p.1)) None) e
-echo_done (t ∷ ts) f rest e = ap (λ o. on_some o (λ p. Some (Echo p.0, p.1)) None) e
-
-result_done : {ts rest : List Terminal} {t : Terminal} {c : CommandTree} → SpellsResult ts c (t ∷ rest) → 8 < strength t → result_read ts ≡ Some (c, t ∷ rest)
-result_done {ts = ts} {rest = rest} {t = t} (echo {f = f} p) less = echo_done ts f (t ∷ rest) (formula_done p less)
-result_done (nnf p) less = ap (λ o. on_some o (λ p. Some (Nnf p.0, p.1)) None) (prime_done p less)
-result_done (pnf p) less = ap (λ o. on_some o (λ p. Some (Pnf p.0, p.1)) None) (prime_done p less)
-result_done (dnf p) less = ap (λ o. on_some o (λ p. Some (Dnf p.0, p.1)) None) (prime_done p less)
-result_done (cnf p) less = ap (λ o. on_some o (λ p. Some (Cnf p.0, p.1)) None) (prime_done p less)
-result_done (simpl p) less = ap (λ o. on_some o (λ p. Some (Simpl p.0.0 (formulas_of p.0.1), p.1)) None) (argument_done p less)
-result_done (qe p) less = ap (λ o. on_some o (λ p. Some (Qe p.0.0 (formulas_of p.0.1), p.1)) None) (argument_done p less)
+result_done : {ts rest : List Terminal} {t : Terminal} {c : WithInner CommandTree} → SpellsResult ts c (t ∷ rest) → 8 < strength t → result_read ts ≡ Some (c, t ∷ rest)
+result_done {rest = rest} {t = t} (resulting p is) less = ap (λ o. on_some o (λ p. Some (result_of p.0, p.1)) None) (formula_done p less) ∙ ap (λ c. Some (c, t ∷ rest)) (sym is)
 
 any_done : {t : Terminal} → IsAny t → is_any t ≡ true
 any_done any_name = refl
@@ -299,7 +287,7 @@ no_assign false us e = cc
 rest_of : {X : Type 0} {x y : X} {r s : List Terminal} → (let p : X × List Terminal = (x, r) in let q : X × List Terminal = (y, s) in Some p ≡ Some q) → s ≡ r
 rest_of {X = X} {x = x} {y = y} {r = r} {s = s} e = let same : (let p : X × List Terminal = (x, r) in let q : X × List Terminal = (y, s) in p ≡ q) = cc in ap (λ (v : X × List Terminal). v.1) (sym same)
 
-said_done : (ts : List Terminal) (c : CommandTree) (rest : List Terminal) → ((us : List Terminal) → rest ≡ terminal.Mark mark.Assign ∷ us → ⊥) → result_read ts ≡ Some (c, rest) → action_read ts ≡ Some (Say c, rest)
+said_done : (ts : List Terminal) (c : WithInner CommandTree) (rest : List Terminal) → ((us : List Terminal) → rest ≡ terminal.Mark mark.Assign ∷ us → ⊥) → result_read ts ≡ Some (c, rest) → action_read ts ≡ Some (around Say c, rest)
 said_done [] c rest other e = absurd (let no : ⊥ = cc in no)
 said_done (terminal.Word word.Set ∷ ts) c rest other e = absurd (let no : ⊥ = cc in no)
 said_done (terminal.Word word.Load ∷ ts) c rest other e = absurd (let no : ⊥ = cc in no)
@@ -323,30 +311,31 @@ said_done (terminal.Name x ∷ terminal.Mark mark.Assign ∷ ts) c rest other e 
 said_done (terminal.Name x ∷ t ∷ ts) c rest other e = ap said e
 said_done (t ∷ ts) c rest other e = ap said e
 
-query_done : {ts : List Terminal} {c : CommandTree} (printed : Bool) → AreProperTerminals ts → SpellsQuery ts c (terminal.Mark (end_mark printed) ∷ []) → action_read ts ≡ Some (Say c, terminal.Mark (end_mark printed) ∷ [])
-query_done printed good (qea p) = ap (λ o. on_some o (λ p. Some (Say (Qea p.0.0 (formulas_of p.0.1)), p.1)) None) (argument_done p (ends_strongly printed))
-query_done printed good (holds p q) = ap (λ o. on_some o (λ p. Some (Say (Holds p.0.0 p.0.1), p.1)) None) (pointed_done good p q)
-query_done printed good (witness p q) = ap (λ o. on_some o (λ p. Some (Say (Sample p.0.0 p.0.1), p.1)) None) (pointed_done good p q)
-query_done printed good (grid p q) = ap (λ o. on_some o (λ p. Some (Say (Grid p.0.0 p.0.1), p.1)) None) (grid_done good p q)
-query_done printed good (certify p) = ap (λ o. on_some o (λ p. Some (Say (Certify (formulas_of p.0)), p.1)) None) (certified_done p)
-query_done printed good (check p q) = ap (λ o. on_some o (λ p. Some (Say (Check (formulas_of p.0.0) p.0.1), p.1)) None) (checked_done good p q)
-query_done printed good (least p q) = ap (λ o. on_some o (λ p. Some (Say (Least (formulas_of p.0.0) p.0.1), p.1)) None) (least_done p q)
+query_done : {ts : List Terminal} {c : WithInner CommandTree} (printed : Bool) → AreProperTerminals ts → SpellsQuery ts c (terminal.Mark (end_mark printed) ∷ [])
+    → action_read ts ≡ Some (around Say c, terminal.Mark (end_mark printed) ∷ [])
+query_done printed good (qea p) = ap (λ o. on_some o (λ p. Some (around Say (about_under Qea p.0.0 (all_of p.0.1)), p.1)) None) (argument_done p (ends_strongly printed))
+query_done printed good (holds p q) = ap (λ o. on_some o (λ p. Some (around Say (about (λ t. Holds t p.0.1) p.0.0), p.1)) None) (pointed_done good p q)
+query_done printed good (witness p q) = ap (λ o. on_some o (λ p. Some (around Say (about (λ t. Sample t p.0.1) p.0.0), p.1)) None) (pointed_done good p q)
+query_done printed good (grid p q) = ap (λ o. on_some o (λ p. Some (around Say (about (λ t. Grid t p.0.1) p.0.0), p.1)) None) (grid_done good p q)
+query_done printed good (certify p) = ap (λ o. on_some o (λ p. Some (around Say (about_all Certify (all_of p.0)), p.1)) None) (certified_done p)
+query_done printed good (check p q) = ap (λ o. on_some o (λ p. Some (around Say (about_all (λ fs. Check fs p.0.1) (all_of p.0.0)), p.1)) None) (checked_done good p q)
+query_done printed good (least p q) = ap (λ o. on_some o (λ p. Some (around Say (about_all (λ fs. Least fs p.0.1) (all_of p.0.0)), p.1)) None) (least_done p q)
 
-action_done : {ts : List Terminal} {a : ActionTree} (printed : Bool) → AreProperTerminals ts → SpellsAction ts a (terminal.Mark (end_mark printed) ∷ []) → action_read ts ≡ Some (a, terminal.Mark (end_mark printed) ∷ [])
-action_done printed good (assign {x = x} p) = ap (λ o. on_some o (λ p. Some (Assign x p.0, p.1)) None) (result_done p (ends_strongly printed))
+action_done : {ts : List Terminal} {a : WithInner ActionTree} (printed : Bool) → AreProperTerminals ts → SpellsAction ts a (terminal.Mark (end_mark printed) ∷ []) → action_read ts ≡ Some (a, terminal.Mark (end_mark printed) ∷ [])
+action_done printed good (assign {x = x} p) = ap (λ o. on_some o (λ p. Some (around (Assign x) p.0, p.1)) None) (result_done p (ends_strongly printed))
 action_done {ts = ts} printed good (result {c = c} p) = said_done ts c (terminal.Mark (end_mark printed) ∷ []) (no_assign printed) (result_done p (ends_strongly printed))
 action_done printed good (query p) = query_done printed good p
-action_done printed good (choose {s = s} is) = ap (λ o. on_some o (λ s. Some (Choose s, terminal.Mark (end_mark printed) ∷ [])) None) is
-action_done printed good (load p) = ap (λ o. on_some o (λ us. Some (Ignored, us)) None) (anys_done p (no_comma printed))
-action_done printed good (on p) = ap (λ o. on_some o (λ us. Some (Ignored, us)) None) (anys_done p (no_comma printed))
-action_done printed good (off p) = ap (λ o. on_some o (λ us. Some (Ignored, us)) None) (anys_done p (no_comma printed))
-action_done printed good (assume p) = ap (λ o. on_some o (λ p. Some (Assume (formulas_of p.0), p.1)) None) (braced_atoms p)
+action_done printed good (choose {s = s} is) = ap (λ o. on_some o (λ s. Some (bare (Choose s), terminal.Mark (end_mark printed) ∷ [])) None) is
+action_done printed good (load p) = ap (λ o. on_some o (λ us. Some (bare Ignored, us)) None) (anys_done p (no_comma printed))
+action_done printed good (on p) = ap (λ o. on_some o (λ us. Some (bare Ignored, us)) None) (anys_done p (no_comma printed))
+action_done printed good (off p) = ap (λ o. on_some o (λ us. Some (bare Ignored, us)) None) (anys_done p (no_comma printed))
+action_done printed good (assume p) = ap (λ o. on_some o (λ p. Some (about_all Assume (all_of p.0), p.1)) None) (braced_atoms p)
 action_done printed good retract = refl
 action_done printed good end = refl
 action_done printed good bye = refl
 action_done printed good quit = refl
 
-goes_on : (ts : List Terminal) (p : ActionTree × List Terminal) → action_read ts ≡ Some p → ending ts ≡ None
+goes_on : (ts : List Terminal) (p : WithInner ActionTree × List Terminal) → action_read ts ≡ Some p → ending ts ≡ None
 goes_on [] p e = refl
 goes_on (terminal.Mark mark.Semicolon ∷ ts) p e = absurd (let no : ⊥ = cc in no)
 goes_on (terminal.Mark mark.Dollar ∷ ts) p e = absurd (let no : ⊥ = cc in no)
@@ -357,10 +346,10 @@ ended true = refl
 ended false = refl
 
 -- what follows the first test of an end
-abbrev then_statement : List Terminal → Option Bool → Option (ActionTree × List Terminal) → Option StatementTree
+abbrev then_statement : List Terminal → Option Bool → Option (WithInner ActionTree × List Terminal) → Option StatementTree
 then_statement ts o a =
-    on_some o (λ printed. Some (record { action = Empty; printed = printed }))
-    (on_some a (λ p. on_some (ending p.1) (λ printed. Some (record { action = p.0; printed = printed })) None) None)
+    on_some o (λ printed. Some (record { action = Empty; printed = printed; inner = inside.alone }))
+    (on_some a (λ p. on_some (ending p.1) (λ printed. Some (record { action = p.0.tree; printed = printed; inner = p.0.inner })) None) None)
 
 -- each statement that proper terminals spell is read
 pub statement_done : {ts : List Terminal} {s : StatementTree} → AreProperTerminals ts → SpellsStatement ts s → statement_read ts ≡ Some s
@@ -369,4 +358,4 @@ statement_done {ts = ts} good (acting {a = a} {printed = printed} p is) =
     let read = action_done printed good p in
     ap (λ o. then_statement ts o (action_read ts)) (goes_on ts (a, terminal.Mark (end_mark printed) ∷ []) read)
     ∙ ap (then_statement ts None) read
-    ∙ ap (λ o. on_some o (λ printed. let s : StatementTree = record { action = a; printed = printed } in Some s) None) (ended printed) ∙ ap Some (sym is)
+    ∙ ap (λ o. on_some o (λ printed. let s : StatementTree = record { action = a.tree; printed = printed; inner = a.inner } in Some s) None) (ended printed) ∙ ap Some (sym is)

@@ -7,7 +7,7 @@ use Rattle.redlog_tokens.specs.declared.terminal.Terminal.TheVariants as termina
 use Rattle.redlog_tokens.specs.declared.terminal.Mark.TheVariants as mark
 use Rattle.redlog_reader.specs.Machine.{Reading, Term, Bare, term_of, Frame, Group, Added, Multiplied}
 use Rattle.redlog_reader.specs.Machine.{Wants, Fresh, Held, Raised, Fails, Moves, strength, takes, signed_term, multiplied, continued, factors, members, pushed, multiplies, adds, operated, held}
-use Rattle.redlog_reader.specs.Grammar.{product_of, sum_of, SpellsFactor, number, variable, inner_sum, SpellsPower, first_power, raised, SpellsProduct, product, Factors, no_factor, times, over, SpellsSum, sum, plus_sum, minus_sum, Members, no_member, plus, minus}
+use Rattle.redlog_reader.specs.Grammar.{product_of, sum_of, SpellsFactor, number, variable, inner_sum, SpellsPower, first_power, raised, SpellsProduct, product, Factors, no_factor, times, quotient, SpellsSum, sum, plus_sum, minus_sum, Members, no_member, plus, minus}
 use Rattle.redlog_reader.proofs.Steps.{strength_at, ReadsTerm, moves, is_term, within, put, ends, no_power, level_kept}
 
 -- the list that has been read so far, with its last member held
@@ -55,7 +55,7 @@ adds_within goal t {fs = fs} {h = h} s le (HoldsMembers_after {flag = flag} {ts 
 factors_strength : {before : List TermTree} {us rest : List Terminal} {v : TermTree} → Factors before us v rest → 1 < strength_at rest → 0 < strength_at us
 factors_strength (no_factor e) less = omega (arith, less)
 factors_strength (times p m) less = omega arith
-factors_strength (over p m) less = omega arith
+factors_strength (quotient p m) less = omega arith
 
 members_strength : {before : List TermTree} {us rest : List Terminal} {v : TermTree} → Members before us v rest → 2 < strength_at rest → 1 < strength_at us
 members_strength (no_member e) less = omega (arith, less)
@@ -104,7 +104,7 @@ mutual
         is = more.is;
         runs = moves goal (terminal.Mark mark.Times) us gs (Held h) (multiplies_within goal (terminal.Mark mark.Times) refl le holds ∙ multiplies_more goal false le holds) ∙ next.runs ∙ more.runs;
       }
-  complete_factors goal fs le {before = before} (over {us = us} p m) less {gs = gs} {h = h} holds =
+  complete_factors goal fs le {before = before} (quotient {us = us} p m) less {gs = gs} {h = h} holds =
       let next = complete_power goal (Multiplied true before ∷ fs) p (factors_strength m less) in
       let more = complete_factors goal fs le m less (HoldsFactors_after {flag = true} {ts = before} next.is) in
       record {

@@ -4,8 +4,8 @@ use Rattle.std.specs.Prelude.{Some, None, slice_get, if◌then◌else◌}
 use Rattle.std.proofs.lemmas.Bool.{lt-ltb}
 use Rattle.formula_meaning.specs.Shape.{quantified}
 use Rattle.formula_meaning.specs.declared.quantifier.Quantifier.{Quantifier}
-use Rattle.qe_syntax.specs.Trees.{FormulaTree}
-use Rattle.redlog_reader.specs.Grammar.{quantified_names}
+use Rattle.qe_syntax.specs.Holes.{over}
+use Rattle.redlog_reader.specs.Grammar.{Written, quantified_names}
 use Rattle.redlog_reader.specs.Machine.{Reading, Frame, level, takes_last, takes, ended, folded}
 use Rattle.std.proofs.lemmas.List.{reverse-append}
 use Rattle.redlog_reader.specs.declared.pending.Pending.{Pending}
@@ -44,9 +44,9 @@ folded_none s frame fs h less e =
     ∙ ap (λ o. elim o [ None ↦ None | Some k ↦ folded s fs k ]) e
 
 -- one more name, the last
-pub quantified_more : (quantifier : Quantifier) (xs : List (List ℕ)) (x : List ℕ) (f : FormulaTree) → quantified_names quantifier (xs ++ x ∷ []) f ≡ quantified_names quantifier xs (quantified quantifier x f)
+pub quantified_more : (quantifier : Quantifier) (xs : List (List ℕ)) (x : List ℕ) (f : Written) → quantified_names quantifier (xs ++ x ∷ []) f ≡ quantified_names quantifier xs (over (quantified quantifier x) f)
 quantified_more quantifier [] x f = refl
-quantified_more quantifier (y ∷ xs) x f = ap (quantified quantifier y) (quantified_more quantifier xs x f)
+quantified_more quantifier (y ∷ xs) x f = ap (over (quantified quantifier y)) (quantified_more quantifier xs x f)
 
 pub ruleset folds = (frames_more, level_kept, folded_end, folded_none)
 

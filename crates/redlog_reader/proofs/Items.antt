@@ -1,7 +1,6 @@
 -- Reading a list of items.
 use Rattle.std.proofs.Common.{◌≡◌, ℕ, zero, suc, ◌<◌, ◌≤◌, Bool, true, false, List, [], ◌∷◌, ◌++◌, length, sym, refl, ap, ◌∙◌, subst, arith, append_assoc}
 use Rattle.std.specs.Prelude.{pos, Option, Some, None, nat_le, if◌then◌else◌, ◌==◌}
-use Rattle.qe_syntax.specs.Trees.{FormulaTree}
 use Rattle.qe_syntax.specs.declared.tree.Literal.{Literal}
 use Rattle.qe_syntax.specs.declared.tree.Literal.TheVariants.{Fits}
 use Rattle.qe_syntax.specs.declared.tree.Relation.TheVariants.{Equal}
@@ -13,6 +12,7 @@ use Rattle.redlog_tokens.specs.declared.terminal.Terminal.TheVariants as termina
 use Rattle.redlog_tokens.specs.declared.terminal.Mark.{Mark}
 use Rattle.redlog_tokens.specs.declared.terminal.Mark.TheVariants as mark
 use Rattle.redlog_tokens.specs.declared.terminal.Word.TheVariants as word
+use Rattle.redlog_reader.specs.Grammar.{Written}
 use Rattle.redlog_reader.specs.Machine.{Reading, Frame, Mode, Wants, Outcome, Fails, Stops, Moves, Negation, Added, level, takes, pushed, wanted, step, run, term_of, formula_of}
 use Rattle.redlog_reader.specs.declared.argument.AtomKind.{AtomKind}
 use Rattle.redlog_reader.specs.declared.argument.AtomKind.TheVariants as kind
@@ -172,18 +172,18 @@ atom_less ts = choose (begins_congruence ts)
     choose false = comparison_less ts
 
 -- a comparison that meets a test
-tested_less : (is : FormulaTree → Bool) (ts : List Terminal) → LeavesLess (length ts) (on_some (comparison_read ts) (λ p. if is p.0 then Some p else None) None)
+tested_less : (is : Written → Bool) (ts : List Terminal) → LeavesLess (length ts) (on_some (comparison_read ts) (λ p. if is p.0 then Some p else None) None)
 tested_less is ts = on_some_less (length ts) (comparison_read ts) _ (λ p e. choose p (less_of _ _ p (comparison_less ts) e) (is p.0))
   where
-    choose : (p : FormulaTree × List Terminal) → length p.1 < length ts → (b : Bool) → LeavesLess (length ts) (if b then Some p else None)
+    choose : (p : Written × List Terminal) → length p.1 < length ts → (b : Bool) → LeavesLess (length ts) (if b then Some p else None)
     choose p h true = h
     choose p h false = tt
 
 pub bound_less : (ts : List Terminal) → LeavesLess (length ts) (bound_read ts)
-bound_less = tested_less is_constraint
+bound_less = tested_less (λ f. is_constraint f.tree)
 
 pub weak_less : (ts : List Terminal) → LeavesLess (length ts) (weak_read ts)
-weak_less = tested_less is_weak_constraint
+weak_less = tested_less (λ f. is_weak_constraint f.tree)
 
 pub kind_less : (k : AtomKind) (ts : List Terminal) → LeavesLess (length ts) (kind_read k ts)
 kind_less kind.Any ts = atom_less ts
@@ -241,10 +241,10 @@ axis_less ts = on_some_less (length ts) (after_mark mark.OpenBrace ts) _ (λ us 
     on_some_less (length ts) (ratio_read mark.Comma vs) _ (λ low h. on_some_less (length ts) (ratio_read mark.Comma low.1) _ (λ high i. on_some_less (length ts) (ratio_read mark.CloseBrace high.1) _ (λ step j.
     omega (arith, mark_shorter mark.OpenBrace ts us e, less_of _ _ x (name_less us) f, mark_shorter mark.Comma x.1 vs g, less_of _ _ low (ratio_less mark.Comma vs) h, less_of _ _ high (ratio_less mark.Comma low.1) i, less_of _ _ step (ratio_less mark.CloseBrace high.1) j)))))))
 
-pub items_of_atoms_more : (k : AtomKind) (ts us : List Terminal) (p : FormulaTree × List Terminal) → kind_read k ts ≡ Some p → after_mark mark.Comma p.1 ≡ Some us → items_read (kind_read k) ts ≡ onto (p.0 ∷ []) (items_read (kind_read k) us)
+pub items_of_atoms_more : (k : AtomKind) (ts us : List Terminal) (p : Written × List Terminal) → kind_read k ts ≡ Some p → after_mark mark.Comma p.1 ≡ Some us → items_read (kind_read k) ts ≡ onto (p.0 ∷ []) (items_read (kind_read k) us)
 items_of_atoms_more k = items_more (kind_read k) (kind_less k)
 
-pub items_of_atoms_last : (k : AtomKind) (ts : List Terminal) (p : FormulaTree × List Terminal) → kind_read k ts ≡ Some p → after_mark mark.Comma p.1 ≡ None → items_read (kind_read k) ts ≡ Some (p.0 ∷ [], p.1)
+pub items_of_atoms_last : (k : AtomKind) (ts : List Terminal) (p : Written × List Terminal) → kind_read k ts ≡ Some p → after_mark mark.Comma p.1 ≡ None → items_read (kind_read k) ts ≡ Some (p.0 ∷ [], p.1)
 items_of_atoms_last k = items_last (kind_read k) (kind_less k)
 
 pub items_of_atoms_none : (k : AtomKind) (ts : List Terminal) → kind_read k ts ≡ None → items_read (kind_read k) ts ≡ None

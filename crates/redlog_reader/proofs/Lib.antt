@@ -7,7 +7,6 @@ pub mod Sound
 pub mod Frames
 pub mod Options
 pub mod Items
-pub mod Constrained
 pub mod Proper
 pub mod CompleteStatements
 pub mod SoundStatements

@@ -1,6 +1,10 @@
 -- What proper terminals spell can be written, and leaves proper terminals.
-use Rattle.std.proofs.Common.{lit<, ◌^◌, ◌≡◌, ℕ, zero, suc, ◌<◌, true, List, [], ◌∷◌, ◌++◌, sym, refl, subst, arith}
-use Rattle.std.specs.Prelude.{ℤ, negsuc, neg_ℤ, unsigned_abs, pos}
+use Rattle.std.proofs.Common.{lit<, ◌^◌, ◌≡◌, ◌⊎◌, inl, inr, ℕ, zero, suc, ◌+◌, ◌<◌, true, List, [], ◌∷◌, ◌++◌, sym, refl, subst, arith}
+use Rattle.std.specs.Prelude.{ℤ, negsuc, neg_ℤ, unsigned_abs, pos, Some, None}
+use Rattle.std.specs.List.{AllByRecursion}
+use Rattle.std.proofs.lemmas.Int.{ints}
+use Rattle.formula_meaning.specs.Formula.{Yes, No, One, Not, And, Or, Impl, Repl, Equiv, Ex, All}
+use Rattle.formula_meaning.specs.Formula as plain
 use Rattle.formula_meaning.specs.Shape.{quantified}
 use Rattle.formula_meaning.specs.declared.quantifier.Quantifier.{Quantifier}
 use Rattle.formula_meaning.specs.declared.quantifier.Quantifier.TheVariants.{Exists, ForAll}
@@ -8,28 +12,32 @@ use Rattle.qe_syntax.specs.declared.tree.Literal.{Literal}
 use Rattle.qe_syntax.specs.declared.tree.Literal.TheVariants.{Fits, Past}
 use Rattle.qe_syntax.specs.declared.tree.Relation.{Relation}
 use Rattle.qe_syntax.specs.declared.entries.PointEntry.{PointEntry}
-use Rattle.qe_syntax.specs.Trees.{TermTree, FormulaTree, formulas_of}
-use Rattle.statement_syntax.specs.Statements.{CommandTree, ActionTree, StatementTree}
-use Rattle.redlog_tokens.specs.declared.terminal.Terminal.{Terminal}
-use Rattle.redlog_tokens.specs.declared.terminal.Terminal.TheVariants as terminal
-use Rattle.redlog_tokens.specs.declared.terminal.Mark.TheVariants as mark
-use Rattle.redlog_reader.specs.Grammar.{SpellsFactor, number, variable, inner_sum, SpellsPower, first_power, raised, SpellsProduct, product, SpellsSum, sum, plus_sum, minus_sum, IsRelation, relation_sign, relation_word, SpellsComparison, comparison, SpellsCongruence, congruent, incongruent, SpellsAtom, compared_atom, congruent_atom}
-use Rattle.redlog_reader.specs.Grammar.{SpellsPrime, truth, falsity, named_formula, congruence, inner_formula, exists, for_all, SpellsFormula, opposite, Above, unsigned, opposed, Below, one, divided, SpellsEntry, entry, Listed, last_item, more_items, Braced, empty, listed, SpellsPoint}
-use Rattle.redlog_reader.specs.Grammar.{SpellsArgument, alone, under, SpellsResult, echo, nnf, pnf, dnf, cnf, simpl, qe, SpellsRatio, ratio, SpellsAxis, axis, SpellsBound, bound, SpellsBounds, SpellsWeak, weak, SpellsWeaks, SpellsWholes, SpellsQuery, qea, holds, witness, grid, certify, check, least, SpellsAction, assign, result, query, choose, load, on, off, assume, retract, end, bye, quit, SpellsStatement, nothing, acting}
-use Rattle.std.specs.List.{AllByRecursion}
-use Rattle.std.proofs.lemmas.Int.{ints}
 use Rattle.qe_syntax.specs.Names.{IsVariable}
-use Rattle.qe_syntax.specs.Trees.{Negative, terms_of}
-use Rattle.qe_syntax.specs.Proper.{IsNumeral, IsSigned}
-use Rattle.qe_syntax.specs.Writable.{IsWritableEntry, AreWritableEntries, IsWritableTerm, AreWritableTerms, IsWritableFormula, AreWritableFormulas}
+use Rattle.qe_syntax.specs.Trees.{TermTree, TermTrees, Number, Named, Sum, Product, Quotient, Power, Negative, terms_of, WrittenAtom, Compare, Cong, Ncong, Bound, FormulaTree, FormulaTrees}
+use Rattle.qe_syntax.specs.Trees as trees
+use Rattle.qe_syntax.specs.Holes.{InnerTree, Nest, Nests, nest, together, command_count, command_alone, Holed, whole, over, over_both, all_of, nested_under, computed}
+use Rattle.qe_syntax.specs.Holes as inside
+use Rattle.qe_syntax.specs.Proper.{IsNumeral, IsSigned, IsTermOver, AreTermsOver, IsAtomOver, IsFormulaOver, AreFormulasOver}
+use Rattle.qe_syntax.specs.Writable.{IsWritableEntry, AreWritableEntries, IsWritableTerm, AreWritableTerms, IsWritableFormula}
 use Rattle.statement_syntax.specs.declared.grid.Ratio.{Ratio}
 use Rattle.statement_syntax.specs.declared.grid.GridAxis.{GridAxis}
 use Rattle.statement_syntax.specs.Constraints.{is_constraint, is_weak_constraint}
 use Rattle.statement_syntax.specs.ConstraintLists.{AreConstraints, AreWeakConstraints}
-use Rattle.statement_syntax.specs.Writable.{IsWritableRatio, IsWritableAxis, AreWritableNumbers, IsWritableCommand, IsWritableAction, IsWritable}
-use Rattle.redlog_reader.specs.Grammar.{product_of, sum_of, conjunction_of, disjunction_of, quantified_names, Factors, no_factor, times, over, Members, no_member, plus, minus, Names, last_name, more_names, SpellsNames, one_name, many_names}
+use Rattle.statement_syntax.specs.Statements.{CommandTree, Echo, ActionTree, Ignored, Finish, Choose, Retract, StatementTree}
+use Rattle.statement_syntax.specs.Inner.{WithInner, bare, about, command_in, command_of}
+use Rattle.statement_syntax.specs.Writable.{IsWritableRatio, IsWritableAxis, AreWritableNumbers, IsNameBeside, IsCommandOver, IsActionOver, IsInnerOver, IsWritableNest, AreWritableNests, IsWritable}
+use Rattle.redlog_tokens.specs.declared.terminal.Terminal.{Terminal}
+use Rattle.redlog_tokens.specs.declared.terminal.Terminal.TheVariants as terminal
+use Rattle.redlog_tokens.specs.declared.terminal.Mark.TheVariants as mark
+use Rattle.redlog_tokens.specs.declared.terminal.Word.{Word}
 use Rattle.redlog_tokens.proofs.ProperTokens.{AreProperTerminals}
-use Rattle.redlog_reader.specs.Grammar.{SpellsNegation, negation, compared, prime, SpellsConjunction, conjunction, Conjuncts, no_conjunct, conjunct, SpellsDisjunction, disjunction, Disjuncts, no_disjunct, disjunct, SpellsImplication, no_implication, implication, SpellsReplication, replication, Repls, no_repl, repl, equivalence, Equivs, no_equiv, equiv}
+use Rattle.redlog_reader.specs.declared.inner_word.InnerWord.{InnerWord}
+use Rattle.redlog_reader.specs.declared.inner_word.InnerWord.TheVariants as begins
+use Rattle.redlog_reader.specs.Grammar.{Written, product_of, sum_of, conjunction_of, disjunction_of, quantified_names, command, SpellsFactor, number, variable, inner_sum, SpellsPower, first_power, raised, SpellsProduct, product, Factors, no_factor, times, quotient, SpellsSum, sum, plus_sum, minus_sum, Members, no_member, plus, minus}
+use Rattle.redlog_reader.specs.Grammar.{IsRelation, relation_sign, relation_word, SpellsComparison, comparison, SpellsCongruence, congruent, incongruent, SpellsAtom, compared_atom, congruent_atom, Listed, last_item, more_items, Braced, empty, listed, SpellsAtoms, Names, last_name, more_names, SpellsNames, one_name, many_names}
+use Rattle.redlog_reader.specs.Grammar.{SpellsPrime, truth, falsity, named_formula, congruence, inner_formula, exists, for_all, inner_command, inner_under, SpellsNegation, negation, compared, prime, SpellsConjunction, conjunction, Conjuncts, no_conjunct, conjunct, SpellsDisjunction, disjunction, Disjuncts, no_disjunct, disjunct}
+use Rattle.redlog_reader.specs.Grammar.{SpellsImplication, no_implication, implication, SpellsReplication, replication, Repls, no_repl, repl, SpellsFormula, equivalence, Equivs, no_equiv, equiv, opposite, Above, unsigned, opposed, Below, one, divided, SpellsEntry, entry, SpellsPoint, SpellsArgument, alone, under, SpellsResult, resulting}
+use Rattle.redlog_reader.specs.Grammar.{SpellsRatio, ratio, SpellsAxis, axis, SpellsBound, bound, SpellsBounds, SpellsWeak, weak, SpellsWeaks, SpellsWholes, SpellsQuery, qea, holds, witness, grid, certify, check, least, SpellsAction, assign, result, query, choose, load, on, off, assume, retract, end, bye, quit, SpellsStatement, nothing, acting}
 
 after_relation : {t : Terminal} {r : Relation} (ts : List Terminal) → IsRelation t r → AreProperTerminals (t ∷ ts) → AreProperTerminals ts
 after_relation ts relation_sign h = h
@@ -74,7 +82,7 @@ mutual
   proper_factors : {before : List TermTree} {ts r : List Terminal} {t : TermTree} → Factors before ts t r → ProperTerms before → AreProperTerminals ts → IsWritableTerm t × AreProperTerminals r
   proper_factors {before = before} (no_factor is) b h = (subst IsWritableTerm (sym is) (proper_of_product before b), h)
   proper_factors {before = before} (times {t = t} p m) b h = let a = proper_power p h in proper_factors m (more_terms before t b a.0) a.1
-  proper_factors {before = before} (over {t = t} p m) b h = let a = proper_power p h in proper_factors m ((proper_of_product before b, a.0), tt) a.1
+  proper_factors {before = before} (quotient {t = t} p m) b h = let a = proper_power p h in proper_factors m ((proper_of_product before b, a.0), tt) a.1
 
   proper_spelled_sum : {ts r : List Terminal} {t : TermTree} → SpellsSum ts t r → AreProperTerminals ts → IsWritableTerm t × AreProperTerminals r
   proper_spelled_sum (sum p m) h = let a = proper_product p h in proper_members m (a.0, tt) a.1
@@ -86,16 +94,127 @@ mutual
   proper_members {before = before} (plus {t = t} p m) b h = let a = proper_product p h in proper_members m (more_terms before t b a.0) a.1
   proper_members {before = before} (minus {t = t} p m) b h = let a = proper_product p h in proper_members m (more_terms before (Negative t) b a.0) a.1
 
-proper_comparison : {ts r : List Terminal} {f : FormulaTree} → SpellsComparison ts f r → AreProperTerminals ts → IsWritableFormula f × AreProperTerminals r
-proper_comparison (comparison {us = us} p is q) h = let a = proper_spelled_sum p h in let b = proper_spelled_sum q (after_relation us is a.1) in ((a.0, b.0), b.1)
+-- ---- names that are allowed for others are allowed
 
-proper_congruence : {ts r : List Terminal} {f : FormulaTree} → SpellsCongruence ts f r → AreProperTerminals ts → IsWritableFormula f × AreProperTerminals r
-proper_congruence (congruent p q m) h = let a = proper_spelled_sum p h in let b = proper_spelled_sum q a.1 in let c = proper_spelled_sum m b.1 in ((a.0, b.0, c.0), c.1)
-proper_congruence (incongruent p q m) h = let a = proper_spelled_sum p h in let b = proper_spelled_sum q a.1 in let c = proper_spelled_sum m b.1 in ((a.0, b.0, c.0), c.1)
+module _ (K L : List ℕ → Type 0) (wide : (x : List ℕ) → K x → L x) where
+  mutual
+    wider_term : (t : TermTree) → IsTermOver K t → IsTermOver L t
+    wider_term (Number n) h = h
+    wider_term (Named x) h = wide x h
+    wider_term (Sum ts) h = (h.0, wider_terms ts h.1)
+    wider_term (Product ts) h = (h.0, wider_terms ts h.1)
+    wider_term (Quotient s t) h = (wider_term s h.0, wider_term t h.1)
+    wider_term (Power t n) h = (wider_term t h.0, h.1)
+    wider_term (Negative t) h = wider_term t h
 
-pub proper_atom : {ts r : List Terminal} {f : FormulaTree} → SpellsAtom ts f r → AreProperTerminals ts → IsWritableFormula f × AreProperTerminals r
+    wider_terms : (ts : TermTrees) → AreTermsOver K ts → AreTermsOver L ts
+    wider_terms trees.none h = tt
+    wider_terms (trees.also t ts) h = (wider_term t h.0, wider_terms ts h.1)
+
+  wider_atom : (a : WrittenAtom) → IsAtomOver K a → IsAtomOver L a
+  wider_atom (Compare rel s t) h = (wider_term s h.0, wider_term t h.1)
+  wider_atom (Cong s t m) h = (wider_term s h.0, wider_term t h.1, wider_term m h.2)
+  wider_atom (Ncong s t m) h = (wider_term s h.0, wider_term t h.1, wider_term m h.2)
+  wider_atom (Bound x) h = wide x h
+
+  mutual
+    wider_formula : (f : FormulaTree) → IsFormulaOver K f → IsFormulaOver L f
+    wider_formula Yes h = tt
+    wider_formula No h = tt
+    wider_formula (One a) h = wider_atom a h
+    wider_formula (Not f) h = wider_formula f h
+    wider_formula (And fs) h = (h.0, wider_formulas fs h.1)
+    wider_formula (Or fs) h = (h.0, wider_formulas fs h.1)
+    wider_formula (Impl f g) h = (wider_formula f h.0, wider_formula g h.1)
+    wider_formula (Repl f g) h = (wider_formula f h.0, wider_formula g h.1)
+    wider_formula (Equiv f g) h = (wider_formula f h.0, wider_formula g h.1)
+    wider_formula (Ex x f) h = (wide x h.0, wider_formula f h.1)
+    wider_formula (All x f) h = (wide x h.0, wider_formula f h.1)
+
+    wider_formulas : (fs : FormulaTrees) → AreFormulasOver K fs → AreFormulasOver L fs
+    wider_formulas plain.none h = tt
+    wider_formulas (plain.also f fs) h = (wider_formula f h.0, wider_formulas fs h.1)
+
+variable_beside : (ns : Nests) (x : List ℕ) → IsVariable x → IsNameBeside ns x
+variable_beside inside.alone x h = h
+variable_beside (inside.beside n ns) x h = inl h
+
+first_beside : (ns ms : Nests) (x : List ℕ) → IsNameBeside ns x → IsNameBeside (together ns ms) x
+first_beside inside.alone ms x h = variable_beside ms x h
+first_beside (inside.beside n ns) ms x h = h
+
+second_beside : (ns ms : Nests) (x : List ℕ) → IsNameBeside ms x → IsNameBeside (together ns ms) x
+second_beside inside.alone ms x h = h
+second_beside (inside.beside n ns) inside.alone x h = inl h
+second_beside (inside.beside n ns) (inside.beside m ms) x h = h
+
+all_nests : (ns ms : Nests) → AreWritableNests ns → AreWritableNests ms → AreWritableNests (together ns ms)
+all_nests inside.alone ms h k = k
+all_nests (inside.beside n ns) ms h k = (h.0, all_nests ns ms h.1 k)
+
+-- ---- formulas that can be written, and so can the commands inside them
+
+pub record IsWritten (f : Written) : Type 0 where
+  pub named : (k : ℕ) → IsFormulaOver (IsNameBeside f.inner) (f.named k)
+  pub inner : AreWritableNests f.inner
+
+pub record AreWritten (fs : Holed FormulaTrees) : Type 0 where
+  pub named : (k : ℕ) → AreFormulasOver (IsNameBeside fs.inner) (fs.named k)
+  pub inner : AreWritableNests fs.inner
+
+-- the names of two parts, with the commands of both
+module _ (ns ms : Nests) where
+  first_formula : (f : FormulaTree) → IsFormulaOver (IsNameBeside ns) f → IsFormulaOver (IsNameBeside (together ns ms)) f
+  first_formula f h = wider_formula (IsNameBeside ns) (IsNameBeside (together ns ms)) (first_beside ns ms) f h
+
+  second_formula : (f : FormulaTree) → IsFormulaOver (IsNameBeside ms) f → IsFormulaOver (IsNameBeside (together ns ms)) f
+  second_formula f h = wider_formula (IsNameBeside ms) (IsNameBeside (together ns ms)) (second_beside ns ms) f h
+
+  second_formulas : (fs : FormulaTrees) → AreFormulasOver (IsNameBeside ms) fs → AreFormulasOver (IsNameBeside (together ns ms)) fs
+  second_formulas fs h = wider_formulas (IsNameBeside ms) (IsNameBeside (together ns ms)) (second_beside ns ms) fs h
+
+written_whole : (f : FormulaTree) → IsWritableFormula f → IsWritten (whole f)
+written_whole f h = record { named = λ k. h; inner = tt }
+
+written_pair : (g : FormulaTree → FormulaTree → FormulaTree) → ((K : List ℕ → Type 0) (a b : FormulaTree) → IsFormulaOver K a → IsFormulaOver K b → IsFormulaOver K (g a b)) → (f h : Written) → IsWritten f → IsWritten h → IsWritten (over_both g f h)
+written_pair g made f h p q = record {
+  named = λ k. made (IsNameBeside (together f.inner h.inner)) (f.named k) (h.named (k + command_count f.inner)) (first_formula f.inner h.inner (f.named k) (p.named k)) (second_formula f.inner h.inner (h.named (k + command_count f.inner)) (q.named (k + command_count f.inner)));
+  inner = all_nests f.inner h.inner p.inner q.inner;
+}
+
+written_also : (f : Written) (fs : Holed FormulaTrees) → IsWritten f → AreWritten fs → AreWritten (over_both plain.also f fs)
+written_also f fs p q = record {
+  named = λ k. (first_formula f.inner fs.inner (f.named k) (p.named k), second_formulas f.inner fs.inner (fs.named (k + command_count f.inner)) (q.named (k + command_count f.inner)));
+  inner = all_nests f.inner fs.inner p.inner q.inner;
+}
+
+written_all : (fs : List Written) → AllByRecursion IsWritten fs → AreWritten (all_of fs)
+written_all [] h = record { named = λ k. tt; inner = tt }
+written_all (f ∷ fs) h = written_also f (all_of fs) h.0 (written_all fs h.1)
+
+proper_comparison : {ts r : List Terminal} {f : Written} → SpellsComparison ts f r → AreProperTerminals ts → IsWritten f × AreProperTerminals r
+proper_comparison (comparison {us = us} p is q) h = let a = proper_spelled_sum p h in let b = proper_spelled_sum q (after_relation us is a.1) in (written_whole _ (a.0, b.0), b.1)
+
+proper_congruence : {ts r : List Terminal} {f : Written} → SpellsCongruence ts f r → AreProperTerminals ts → IsWritten f × AreProperTerminals r
+proper_congruence (congruent p q m) h = let a = proper_spelled_sum p h in let b = proper_spelled_sum q a.1 in let c = proper_spelled_sum m b.1 in (written_whole _ (a.0, b.0, c.0), c.1)
+proper_congruence (incongruent p q m) h = let a = proper_spelled_sum p h in let b = proper_spelled_sum q a.1 in let c = proper_spelled_sum m b.1 in (written_whole _ (a.0, b.0, c.0), c.1)
+
+pub proper_atom : {ts r : List Terminal} {f : Written} → SpellsAtom ts f r → AreProperTerminals ts → IsWritten f × AreProperTerminals r
 proper_atom (compared_atom p) h = proper_comparison p h
 proper_atom (congruent_atom p) h = proper_congruence p h
+
+proper_items : {X : Type 0} {Item : List Terminal → X → List Terminal → Type 0} {P : X → Type 0} → ((us rest : List Terminal) (x : X) → Item us x rest → AreProperTerminals us → P x × AreProperTerminals rest)
+    → {ts r : List Terminal} {xs : List X} → Listed Item ts xs r → AreProperTerminals ts → AllByRecursion P xs × AreProperTerminals r
+proper_items each {r = r} (last_item {ts = ts} {x = x} p) h = let a = each ts r x p h in ((a.0, tt), a.1)
+proper_items each (more_items {ts = ts} {us = us} {x = x} p m) h = let a = each ts (terminal.Mark mark.Comma ∷ us) x p h in let b = proper_items each m a.1 in ((a.0, b.0), b.1)
+
+proper_braced : {X : Type 0} {Item : List Terminal → X → List Terminal → Type 0} {P : X → Type 0} → ((us rest : List Terminal) (x : X) → Item us x rest → AreProperTerminals us → P x × AreProperTerminals rest)
+    → {ts r : List Terminal} {xs : List X} → Braced Item ts xs r → AreProperTerminals ts → AllByRecursion P xs × AreProperTerminals r
+proper_braced each empty h = (tt, h)
+proper_braced each (listed p) h = let a = proper_items each p h in (a.0, a.1)
+
+proper_atoms : {ts r : List Terminal} {fs : List Written} → SpellsAtoms ts fs r → AreProperTerminals ts → AreWritten (all_of fs) × AreProperTerminals r
+proper_atoms {fs = fs} p h = let a = proper_braced {P = IsWritten} (λ us rest x q k. proper_atom q k) p h in (written_all fs a.0, a.1)
 
 proper_list : {ts r : List Terminal} {xs : List (List ℕ)} → Names ts xs r → AreProperTerminals ts → AllByRecursion IsVariable xs × AreProperTerminals r
 proper_list last_name h = ((h.0, tt), h.1)
@@ -105,82 +224,112 @@ proper_names : {ts r : List Terminal} {xs : List (List ℕ)} → SpellsNames ts 
 proper_names one_name h = ((h.0, tt), h.1)
 proper_names (many_names p) h = let a = proper_list p h in (a.0, a.1)
 
-proper_quantifier : (quantifier : Quantifier) (x : List ℕ) (f : FormulaTree) → IsVariable x → IsWritableFormula f → IsWritableFormula (quantified quantifier x f)
-proper_quantifier ForAll x f v h = (v, h)
-proper_quantifier Exists x f v h = (v, h)
+proper_quantifier : (quantifier : Quantifier) (x : List ℕ) (f : Written) → IsVariable x → IsWritten f → IsWritten (over (quantified quantifier x) f)
+proper_quantifier ForAll x f v h = record { named = λ k. (variable_beside f.inner x v, h.named k); inner = h.inner }
+proper_quantifier Exists x f v h = record { named = λ k. (variable_beside f.inner x v, h.named k); inner = h.inner }
 
-proper_quantified : (quantifier : Quantifier) (xs : List (List ℕ)) (f : FormulaTree) → AllByRecursion IsVariable xs → IsWritableFormula f → IsWritableFormula (quantified_names quantifier xs f)
+proper_quantified : (quantifier : Quantifier) (xs : List (List ℕ)) (f : Written) → AllByRecursion IsVariable xs → IsWritten f → IsWritten (quantified_names quantifier xs f)
 proper_quantified quantifier [] f v h = h
 proper_quantified quantifier (x ∷ xs) f v h = proper_quantifier quantifier x (quantified_names quantifier xs f) v.0 (proper_quantified quantifier xs f v.1 h)
 
-abbrev ProperFormulas : List FormulaTree → Type 0
+-- a list with a member, each of them proper
+abbrev ProperFormulas : List Written → Type 0
 ProperFormulas [] = ⊥
-ProperFormulas (f ∷ fs) = IsWritableFormula f × AreWritableFormulas (formulas_of fs)
+ProperFormulas (f ∷ fs) = IsWritten f × AllByRecursion IsWritten fs
 
-all_formulas : (fs : List FormulaTree) (f : FormulaTree) → AreWritableFormulas (formulas_of fs) → IsWritableFormula f → AreWritableFormulas (formulas_of (fs ++ f ∷ []))
+all_formulas : (fs : List Written) (f : Written) → AllByRecursion IsWritten fs → IsWritten f → AllByRecursion IsWritten (fs ++ f ∷ [])
 all_formulas [] f h p = (p, tt)
 all_formulas (g ∷ fs) f h p = (h.0, all_formulas fs f h.1 p)
 
-more_formulas : (fs : List FormulaTree) (f : FormulaTree) → ProperFormulas fs → IsWritableFormula f → ProperFormulas (fs ++ f ∷ [])
+more_formulas : (fs : List Written) (f : Written) → ProperFormulas fs → IsWritten f → ProperFormulas (fs ++ f ∷ [])
 more_formulas [] f h p = absurd h
 more_formulas (g ∷ fs) f h p = (h.0, all_formulas fs f h.1 p)
 
-proper_and : (fs : List FormulaTree) → ProperFormulas fs → IsWritableFormula (conjunction_of fs)
+proper_and : (fs : List Written) → ProperFormulas fs → IsWritten (conjunction_of fs)
 proper_and [] h = absurd h
 proper_and (f ∷ []) h = h.0
-proper_and (f ∷ g ∷ fs) h = (tt, (h.0, h.1))
+proper_and (f ∷ g ∷ fs) h = let all = written_all (f ∷ g ∷ fs) h in record { named = λ k. (tt, all.named k); inner = all.inner }
 
-proper_or : (fs : List FormulaTree) → ProperFormulas fs → IsWritableFormula (disjunction_of fs)
+proper_or : (fs : List Written) → ProperFormulas fs → IsWritten (disjunction_of fs)
 proper_or [] h = absurd h
 proper_or (f ∷ []) h = h.0
-proper_or (f ∷ g ∷ fs) h = (tt, (h.0, h.1))
+proper_or (f ∷ g ∷ fs) h = let all = written_all (f ∷ g ∷ fs) h in record { named = λ k. (tt, all.named k); inner = all.inner }
+
+-- a command over a formula and a list
+under_given : (c : FormulaTree → FormulaTrees → InnerTree) → ((K : List ℕ → Type 0) (f : FormulaTree) (fs : FormulaTrees) → IsFormulaOver K f → AreFormulasOver K fs → IsInnerOver K (c f fs)) → (f : Written) (given : Holed FormulaTrees) → IsWritten f → AreWritten given
+    → IsWritableNest (nested_under c f given)
+under_given c made f given p q = (
+  made (IsNameBeside (together f.inner given.inner)) (f.named 0) (given.named (command_count f.inner)) (first_formula f.inner given.inner (f.named 0) (p.named 0)) (second_formulas f.inner given.inner (given.named (command_count f.inner)) (q.named (command_count f.inner))),
+  all_nests f.inner given.inner p.inner q.inner,
+)
+
+proper_command : (i : InnerWord) (f : Written) (given : List Written) → IsWritten f → AreWritten (all_of given) → IsWritableNest (command i f given)
+proper_command begins.Nnf f given p q = (p.named 0, p.inner)
+proper_command begins.Pnf f given p q = (p.named 0, p.inner)
+proper_command begins.Dnf f given p q = (p.named 0, p.inner)
+proper_command begins.Cnf f given p q = (p.named 0, p.inner)
+proper_command begins.Simpl f given p q = under_given inside.Simpl (λ K a b h k. (h, k)) f (all_of given) p q
+proper_command begins.Qe f given p q = under_given inside.Qe (λ K a b h k. (h, k)) f (all_of given) p q
+
+written_computed : (n : Nest) → IsWritableNest n → IsWritten (computed n)
+written_computed n h = record { named = λ k. inr (k, refl); inner = (h, tt) }
+
+after_word : (w : Word) (ts : List Terminal) → AreProperTerminals (terminal.Word w ∷ ts) → AreProperTerminals ts
+after_word w ts h = h
 
 mutual
-  pub proper_prime : {ts r : List Terminal} {f : FormulaTree} → SpellsPrime ts f r → AreProperTerminals ts → IsWritableFormula f × AreProperTerminals r
-  proper_prime truth h = (tt, h)
-  proper_prime falsity h = (tt, h)
-  proper_prime named_formula h = (h.0, h.1)
+  pub proper_prime : {ts r : List Terminal} {f : Written} → SpellsPrime ts f r → AreProperTerminals ts → IsWritten f × AreProperTerminals r
+  proper_prime truth h = (written_whole _ tt, h)
+  proper_prime falsity h = (written_whole _ tt, h)
+  proper_prime named_formula h = (written_whole _ h.0, h.1)
   proper_prime (congruence p) h = proper_congruence p h
   proper_prime (inner_formula p) h = let a = proper_formula p h in (a.0, a.1)
-  proper_prime (exists {xs = xs} {f = f} p q is) h = let a = proper_names p h in let b = proper_formula q a.1 in (subst IsWritableFormula (sym is) (proper_quantified Exists xs f a.0 b.0), b.1)
-  proper_prime (for_all {xs = xs} {f = f} p q is) h = let a = proper_names p h in let b = proper_formula q a.1 in (subst IsWritableFormula (sym is) (proper_quantified ForAll xs f a.0 b.0), b.1)
+  proper_prime (exists {xs = xs} {f = f} p q is) h = let a = proper_names p h in let b = proper_formula q a.1 in (subst IsWritten (sym is) (proper_quantified Exists xs f a.0 b.0), b.1)
+  proper_prime (for_all {xs = xs} {f = f} p q is) h = let a = proper_names p h in let b = proper_formula q a.1 in (subst IsWritten (sym is) (proper_quantified ForAll xs f a.0 b.0), b.1)
+  proper_prime (inner_command {w = w} {i = i} {ts = ts} {f = f} e p is) h =
+      let a = proper_prime p (after_word w ts h) in
+      (subst IsWritten (sym is) (written_computed (command i f []) (proper_command i f [] a.0 (written_all [] tt))), a.1)
+  proper_prime (inner_under {w = w} {i = i} {ts = ts} {f = f} {given = given} e takes p q is) h =
+      let a = proper_formula p (after_word w (terminal.Mark mark.Open ∷ ts) h) in
+      let b = proper_atoms q a.1 in
+      (subst IsWritten (sym is) (written_computed (command i f given) (proper_command i f given a.0 b.0)), b.1)
 
-  proper_negation : {ts r : List Terminal} {f : FormulaTree} → SpellsNegation ts f r → AreProperTerminals ts → IsWritableFormula f × AreProperTerminals r
-  proper_negation (negation p) h = let a = proper_negation p h in (a.0, a.1)
+  proper_negation : {ts r : List Terminal} {f : Written} → SpellsNegation ts f r → AreProperTerminals ts → IsWritten f × AreProperTerminals r
+  proper_negation (negation p) h = let a = proper_negation p h in (record { named = a.0.named; inner = a.0.inner }, a.1)
   proper_negation (compared p) h = proper_comparison p h
   proper_negation (prime p) h = proper_prime p h
 
-  proper_conjunction : {ts r : List Terminal} {f : FormulaTree} → SpellsConjunction ts f r → AreProperTerminals ts → IsWritableFormula f × AreProperTerminals r
+  proper_conjunction : {ts r : List Terminal} {f : Written} → SpellsConjunction ts f r → AreProperTerminals ts → IsWritten f × AreProperTerminals r
   proper_conjunction (conjunction p m) h = let a = proper_negation p h in proper_conjuncts m (a.0, tt) a.1
 
-  proper_conjuncts : {before : List FormulaTree} {ts r : List Terminal} {f : FormulaTree} → Conjuncts before ts f r → ProperFormulas before → AreProperTerminals ts → IsWritableFormula f × AreProperTerminals r
-  proper_conjuncts {before = before} (no_conjunct is) b h = (subst IsWritableFormula (sym is) (proper_and before b), h)
+  proper_conjuncts : {before : List Written} {ts r : List Terminal} {f : Written} → Conjuncts before ts f r → ProperFormulas before → AreProperTerminals ts → IsWritten f × AreProperTerminals r
+  proper_conjuncts {before = before} (no_conjunct is) b h = (subst IsWritten (sym is) (proper_and before b), h)
   proper_conjuncts {before = before} (conjunct {f = f} p m) b h = let a = proper_negation p h in proper_conjuncts m (more_formulas before f b a.0) a.1
 
-  proper_disjunction : {ts r : List Terminal} {f : FormulaTree} → SpellsDisjunction ts f r → AreProperTerminals ts → IsWritableFormula f × AreProperTerminals r
+  proper_disjunction : {ts r : List Terminal} {f : Written} → SpellsDisjunction ts f r → AreProperTerminals ts → IsWritten f × AreProperTerminals r
   proper_disjunction (disjunction p m) h = let a = proper_conjunction p h in proper_disjuncts m (a.0, tt) a.1
 
-  proper_disjuncts : {before : List FormulaTree} {ts r : List Terminal} {f : FormulaTree} → Disjuncts before ts f r → ProperFormulas before → AreProperTerminals ts → IsWritableFormula f × AreProperTerminals r
-  proper_disjuncts {before = before} (no_disjunct is) b h = (subst IsWritableFormula (sym is) (proper_or before b), h)
+  proper_disjuncts : {before : List Written} {ts r : List Terminal} {f : Written} → Disjuncts before ts f r → ProperFormulas before → AreProperTerminals ts → IsWritten f × AreProperTerminals r
+  proper_disjuncts {before = before} (no_disjunct is) b h = (subst IsWritten (sym is) (proper_or before b), h)
   proper_disjuncts {before = before} (disjunct {f = f} p m) b h = let a = proper_conjunction p h in proper_disjuncts m (more_formulas before f b a.0) a.1
 
-  proper_implication : {ts r : List Terminal} {f : FormulaTree} → SpellsImplication ts f r → AreProperTerminals ts → IsWritableFormula f × AreProperTerminals r
+  proper_implication : {ts r : List Terminal} {f : Written} → SpellsImplication ts f r → AreProperTerminals ts → IsWritten f × AreProperTerminals r
   proper_implication (no_implication p) h = proper_disjunction p h
-  proper_implication (implication p q) h = let a = proper_disjunction p h in let b = proper_implication q a.1 in ((a.0, b.0), b.1)
+  proper_implication (implication {f = f} {g = g} p q) h = let a = proper_disjunction p h in let b = proper_implication q a.1 in (written_pair Impl (λ K x y u v. (u, v)) f g a.0 b.0, b.1)
 
-  proper_replication : {ts r : List Terminal} {f : FormulaTree} → SpellsReplication ts f r → AreProperTerminals ts → IsWritableFormula f × AreProperTerminals r
+  proper_replication : {ts r : List Terminal} {f : Written} → SpellsReplication ts f r → AreProperTerminals ts → IsWritten f × AreProperTerminals r
   proper_replication (replication p m) h = let a = proper_implication p h in proper_repls m a.0 a.1
 
-  proper_repls : {before : FormulaTree} {ts r : List Terminal} {f : FormulaTree} → Repls before ts f r → IsWritableFormula before → AreProperTerminals ts → IsWritableFormula f × AreProperTerminals r
-  proper_repls (no_repl is) b h = (subst IsWritableFormula (sym is) b, h)
-  proper_repls (repl p m) b h = let a = proper_implication p h in proper_repls m (b, a.0) a.1
+  proper_repls : {before : Written} {ts r : List Terminal} {f : Written} → Repls before ts f r → IsWritten before → AreProperTerminals ts → IsWritten f × AreProperTerminals r
+  proper_repls (no_repl is) b h = (subst IsWritten (sym is) b, h)
+  proper_repls {before = before} (repl {f = f} p m) b h = let a = proper_implication p h in proper_repls m (written_pair Repl (λ K x y u v. (u, v)) before f b a.0) a.1
 
-  pub proper_formula : {ts r : List Terminal} {f : FormulaTree} → SpellsFormula ts f r → AreProperTerminals ts → IsWritableFormula f × AreProperTerminals r
+  pub proper_formula : {ts r : List Terminal} {f : Written} → SpellsFormula ts f r → AreProperTerminals ts → IsWritten f × AreProperTerminals r
   proper_formula (equivalence p m) h = let a = proper_replication p h in proper_equivs m a.0 a.1
 
-  proper_equivs : {before : FormulaTree} {ts r : List Terminal} {f : FormulaTree} → Equivs before ts f r → IsWritableFormula before → AreProperTerminals ts → IsWritableFormula f × AreProperTerminals r
-  proper_equivs (no_equiv is) b h = (subst IsWritableFormula (sym is) b, h)
-  proper_equivs (equiv p m) b h = let a = proper_replication p h in proper_equivs m (b, a.0) a.1
+  proper_equivs : {before : Written} {ts r : List Terminal} {f : Written} → Equivs before ts f r → IsWritten before → AreProperTerminals ts → IsWritten f × AreProperTerminals r
+  proper_equivs (no_equiv is) b h = (subst IsWritten (sym is) b, h)
+  proper_equivs {before = before} (equiv {f = f} p m) b h = let a = proper_replication p h in proper_equivs m (written_pair Equiv (λ K x y u v. (u, v)) before f b a.0) a.1
 
 abs_neg : (n : ℤ) → unsigned_abs (neg_ℤ n) ≡ unsigned_abs n
 abs_neg (pos zero) = refl
@@ -212,38 +361,40 @@ proper_entry (entry is above below) h =
     let b = proper_below below a.1 in
     ((a.0, b.0, subst IsVariable is h.0), b.1)
 
-proper_items : {X : Type 0} {Item : List Terminal → X → List Terminal → Type 0} {P : X → Type 0} → ((us rest : List Terminal) (x : X) → Item us x rest → AreProperTerminals us → P x × AreProperTerminals rest)
-    → {ts r : List Terminal} {xs : List X} → Listed Item ts xs r → AreProperTerminals ts → AllByRecursion P xs × AreProperTerminals r
-proper_items each {r = r} (last_item {ts = ts} {x = x} p) h = let a = each ts r x p h in ((a.0, tt), a.1)
-proper_items each (more_items {ts = ts} {us = us} {x = x} p m) h = let a = each ts (terminal.Mark mark.Comma ∷ us) x p h in let b = proper_items each m a.1 in ((a.0, b.0), b.1)
-
-proper_braced : {X : Type 0} {Item : List Terminal → X → List Terminal → Type 0} {P : X → Type 0} → ((us rest : List Terminal) (x : X) → Item us x rest → AreProperTerminals us → P x × AreProperTerminals rest)
-    → {ts r : List Terminal} {xs : List X} → Braced Item ts xs r → AreProperTerminals ts → AllByRecursion P xs × AreProperTerminals r
-proper_braced each empty h = (tt, h)
-proper_braced each (listed p) h = let a = proper_items each p h in (a.0, a.1)
-
-proper_given : (fs : List FormulaTree) → AllByRecursion IsWritableFormula fs → AreWritableFormulas (formulas_of fs)
-proper_given [] h = tt
-proper_given (f ∷ fs) h = (h.0, proper_given fs h.1)
-
 pub proper_point : {ts r : List Terminal} {es : List PointEntry} → SpellsPoint ts es r → AreProperTerminals ts → AreWritableEntries es × AreProperTerminals r
 proper_point p h = proper_braced {P = IsWritableEntry} (λ us rest x q k. proper_entry q k) p h
 
-proper_argument : {ts r : List Terminal} {f : FormulaTree} {given : List FormulaTree} → SpellsArgument ts f given r → AreProperTerminals ts → (IsWritableFormula f × AreWritableFormulas (formulas_of given)) × AreProperTerminals r
-proper_argument (alone p) h = let a = proper_prime p h in ((a.0, tt), a.1)
-proper_argument (under {given = given} p q) h =
+proper_argument : {ts r : List Terminal} {f : Written} {given : List Written} → SpellsArgument ts f given r → AreProperTerminals ts → (IsWritten f × AreWritten (all_of given)) × AreProperTerminals r
+proper_argument (alone p) h = let a = proper_prime p h in ((a.0, written_all [] tt), a.1)
+proper_argument (under p q) h =
     let a = proper_formula p h in
-    let b = proper_braced {P = IsWritableFormula} (λ us rest x q k. proper_atom q k) q a.1 in
-    ((a.0, proper_given given b.0), b.1)
+    let b = proper_atoms q a.1 in
+    ((a.0, b.0), b.1)
 
-proper_result : {ts r : List Terminal} {c : CommandTree} → SpellsResult ts c r → AreProperTerminals ts → IsWritableCommand c × AreProperTerminals r
-proper_result (echo p) h = proper_formula p h
-proper_result (nnf p) h = proper_prime p h
-proper_result (pnf p) h = proper_prime p h
-proper_result (dnf p) h = proper_prime p h
-proper_result (cnf p) h = proper_prime p h
-proper_result (simpl p) h = proper_argument p h
-proper_result (qe p) h = proper_argument p h
+-- a command that can be written, and so can those inside it
+pub record IsProperCommand (c : WithInner CommandTree) : Type 0 where
+  pub tree : IsCommandOver (IsNameBeside c.inner) c.tree
+  pub inner : AreWritableNests c.inner
+
+command_alone_proper : (K : List ℕ → Type 0) (c : InnerTree) → IsInnerOver K c → IsCommandOver K (command_of c)
+command_alone_proper K (inside.Nnf f) h = h
+command_alone_proper K (inside.Pnf f) h = h
+command_alone_proper K (inside.Dnf f) h = h
+command_alone_proper K (inside.Cnf f) h = h
+command_alone_proper K (inside.Simpl f given) h = h
+command_alone_proper K (inside.Qe f given) h = h
+
+command_in_proper : (n : Nest) → IsWritableNest n → IsProperCommand (command_in n)
+command_in_proper (nest c ns) h = record { tree = command_alone_proper (IsNameBeside ns) c h.0; inner = h.1 }
+
+alone_proper : (t : FormulaTree) (ns : Nests) (echo : WithInner CommandTree) → AreWritableNests ns → IsProperCommand echo → IsProperCommand (elim (command_alone t ns) [ None ↦ echo | Some n ↦ command_in n ])
+alone_proper (One (Bound [])) (inside.beside n inside.alone) echo w e = command_in_proper n w.0
+alone_proper t ns echo w e = e
+
+proper_result : {ts r : List Terminal} {c : WithInner CommandTree} → SpellsResult ts c r → AreProperTerminals ts → IsProperCommand c × AreProperTerminals r
+proper_result (resulting {f = f} p is) h =
+    let a = proper_formula p h in
+    (subst IsProperCommand (sym is) (alone_proper f.tree f.inner (about Echo f) a.0.inner (record { tree = a.0.named 0; inner = a.0.inner })), a.1)
 
 pub proper_ratio : {ts r : List Terminal} {v : Ratio} → SpellsRatio ts v r → AreProperTerminals ts → IsWritableRatio v × AreProperTerminals r
 proper_ratio (ratio above below) h =
@@ -259,59 +410,81 @@ proper_axis (axis is low high step) h =
     (record { name = subst IsVariable is h.0; low = a.0; high = b.0; step = c.0 }, c.1)
 
 -- a constraint that can be written
-abbrev IsProperBound : FormulaTree → Type 0
-IsProperBound f = IsWritableFormula f × (is_constraint f ≡ true)
+abbrev IsProperBound : Written → Type 0
+IsProperBound f = IsWritten f × ((k : ℕ) → is_constraint (f.named k) ≡ true)
 
-proper_bound : {ts r : List Terminal} {f : FormulaTree} → SpellsBound ts f r → AreProperTerminals ts → IsProperBound f × AreProperTerminals r
-proper_bound (bound p is) h = let a = proper_comparison p h in ((a.0, is), a.1)
+proper_bound : {ts r : List Terminal} {f : Written} → SpellsBound ts f r → AreProperTerminals ts → IsProperBound f × AreProperTerminals r
+proper_bound (bound (comparison p is q) e) h = let a = proper_comparison (comparison p is q) h in ((a.0, λ k. e), a.1)
 
-all_bounds : (fs : List FormulaTree) → AllByRecursion IsProperBound fs → AreWritableFormulas (formulas_of fs) × AreConstraints (formulas_of fs)
-all_bounds [] h = (tt, tt)
-all_bounds (f ∷ fs) h = let more = all_bounds fs h.1 in ((h.0.0, more.0), (h.0.1, more.1))
+written_bounds : (fs : List Written) → AllByRecursion IsProperBound fs → AllByRecursion IsWritten fs
+written_bounds [] h = tt
+written_bounds (f ∷ fs) h = (h.0.0, written_bounds fs h.1)
 
-pub proper_bounds : {ts r : List Terminal} {fs : List FormulaTree} → SpellsBounds ts fs r → AreProperTerminals ts → (AreWritableFormulas (formulas_of fs) × AreConstraints (formulas_of fs)) × AreProperTerminals r
-proper_bounds {fs = fs} p h = let a = proper_braced {P = IsProperBound} (λ us rest x q k. proper_bound q k) p h in (all_bounds fs a.0, a.1)
+all_bounds : (fs : List Written) → AllByRecursion IsProperBound fs → (k : ℕ) → AreConstraints ((all_of fs).named k)
+all_bounds [] h k = tt
+all_bounds (f ∷ fs) h k = (h.0.1 k, all_bounds fs h.1 (k + command_count f.inner))
+
+pub proper_bounds : {ts r : List Terminal} {fs : List Written} → SpellsBounds ts fs r → AreProperTerminals ts → (AreWritten (all_of fs) × AreConstraints ((all_of fs).named 0)) × AreProperTerminals r
+proper_bounds {fs = fs} p h = let a = proper_braced {P = IsProperBound} (λ us rest x q k. proper_bound q k) p h in ((written_all fs (written_bounds fs a.0), all_bounds fs a.0 0), a.1)
 
 -- a weak constraint that can be written
-abbrev IsProperWeak : FormulaTree → Type 0
-IsProperWeak f = IsWritableFormula f × (is_weak_constraint f ≡ true)
+abbrev IsProperWeak : Written → Type 0
+IsProperWeak f = IsWritten f × ((k : ℕ) → is_weak_constraint (f.named k) ≡ true)
 
-proper_weak : {ts r : List Terminal} {f : FormulaTree} → SpellsWeak ts f r → AreProperTerminals ts → IsProperWeak f × AreProperTerminals r
-proper_weak (weak p is) h = let a = proper_comparison p h in ((a.0, is), a.1)
+proper_weak : {ts r : List Terminal} {f : Written} → SpellsWeak ts f r → AreProperTerminals ts → IsProperWeak f × AreProperTerminals r
+proper_weak (weak (comparison p is q) e) h = let a = proper_comparison (comparison p is q) h in ((a.0, λ k. e), a.1)
 
-all_weaks : (fs : List FormulaTree) → AllByRecursion IsProperWeak fs → AreWritableFormulas (formulas_of fs) × AreWeakConstraints (formulas_of fs)
-all_weaks [] h = (tt, tt)
-all_weaks (f ∷ fs) h = let more = all_weaks fs h.1 in ((h.0.0, more.0), (h.0.1, more.1))
+written_weaks : (fs : List Written) → AllByRecursion IsProperWeak fs → AllByRecursion IsWritten fs
+written_weaks [] h = tt
+written_weaks (f ∷ fs) h = (h.0.0, written_weaks fs h.1)
 
-proper_weaks : {ts r : List Terminal} {fs : List FormulaTree} → SpellsWeaks ts fs r → AreProperTerminals ts → (AreWritableFormulas (formulas_of fs) × AreWeakConstraints (formulas_of fs)) × AreProperTerminals r
-proper_weaks {fs = fs} p h = let a = proper_braced {P = IsProperWeak} (λ us rest x q k. proper_weak q k) p h in (all_weaks fs a.0, a.1)
+all_weaks : (fs : List Written) → AllByRecursion IsProperWeak fs → (k : ℕ) → AreWeakConstraints ((all_of fs).named k)
+all_weaks [] h k = tt
+all_weaks (f ∷ fs) h k = (h.0.1 k, all_weaks fs h.1 (k + command_count f.inner))
+
+proper_weaks : {ts r : List Terminal} {fs : List Written} → SpellsWeaks ts fs r → AreProperTerminals ts → (AreWritten (all_of fs) × AreWeakConstraints ((all_of fs).named 0)) × AreProperTerminals r
+proper_weaks {fs = fs} p h = let a = proper_braced {P = IsProperWeak} (λ us rest x q k. proper_weak q k) p h in ((written_all fs (written_weaks fs a.0), all_weaks fs a.0 0), a.1)
 
 proper_wholes : {ts r : List Terminal} {ns : List Literal} → SpellsWholes ts ns r → AreProperTerminals ts → AreWritableNumbers ns × AreProperTerminals r
 proper_wholes p h = proper_braced {P = IsSigned} (λ us rest x q k. proper_above q k) p h
 
-proper_query : {ts r : List Terminal} {c : CommandTree} → SpellsQuery ts c r → AreProperTerminals ts → IsWritableCommand c × AreProperTerminals r
-proper_query (qea p) h = proper_argument p h
-proper_query (holds p q) h = let a = proper_formula p h in let b = proper_point q a.1 in ((a.0, b.0), b.1)
-proper_query (witness p q) h = let a = proper_formula p h in let b = proper_point q a.1 in ((a.0, b.0), b.1)
-proper_query (grid p q) h = let a = proper_formula p h in let b = proper_items {P = IsWritableAxis} (λ us rest x q k. proper_axis q k) q a.1 in ((a.0, b.0), b.1)
-proper_query (certify p) h = let a = proper_bounds p h in (a.0, a.1)
-proper_query (check p q) h = let a = proper_bounds p h in let b = proper_wholes q a.1 in ((a.0, b.0), b.1)
-proper_query (least p q) h = let a = proper_weaks p h in let b = proper_spelled_sum q a.1 in ((a.0, b.0), b.1)
+proper_query : {ts r : List Terminal} {c : WithInner CommandTree} → SpellsQuery ts c r → AreProperTerminals ts → IsProperCommand c × AreProperTerminals r
+proper_query (qea {f = f} {given = given} p) h =
+    let a = proper_argument p h in
+    let both = under_given inside.Qe (λ K x y u v. (u, v)) f (all_of given) a.0.0 a.0.1 in
+    (record { tree = both.0; inner = both.1 }, a.1)
+proper_query (holds p q) h = let a = proper_formula p h in let b = proper_point q a.1 in (record { tree = (a.0.named 0, b.0); inner = a.0.inner }, b.1)
+proper_query (witness p q) h = let a = proper_formula p h in let b = proper_point q a.1 in (record { tree = (a.0.named 0, b.0); inner = a.0.inner }, b.1)
+proper_query (grid p q) h =
+    let a = proper_formula p h in
+    let b = proper_items {P = IsWritableAxis} (λ us rest x q k. proper_axis q k) q a.1 in
+    (record { tree = (a.0.named 0, b.0); inner = a.0.inner }, b.1)
+proper_query (certify p) h = let a = proper_bounds p h in (record { tree = (a.0.0.named 0, a.0.1); inner = a.0.0.inner }, a.1)
+proper_query (check p q) h = let a = proper_bounds p h in let b = proper_wholes q a.1 in (record { tree = ((a.0.0.named 0, a.0.1), b.0); inner = a.0.0.inner }, b.1)
+proper_query (least p q) h = let a = proper_weaks p h in let b = proper_spelled_sum q a.1 in (record { tree = ((a.0.0.named 0, a.0.1), b.0); inner = a.0.0.inner }, b.1)
 
-proper_action : {ts r : List Terminal} {a : ActionTree} → SpellsAction ts a r → AreProperTerminals ts → IsWritableAction a
-proper_action (assign p) h = (h.0, (proper_result p h.1).0)
-proper_action (result p) h = (proper_result p h).0
-proper_action (query p) h = (proper_query p h).0
-proper_action (choose is) h = tt
-proper_action (load p) h = tt
-proper_action (on p) h = tt
-proper_action (off p) h = tt
-proper_action (assume {given = given} p) h = proper_given given (proper_braced {P = IsWritableFormula} (λ us rest x q k. proper_atom q k) p h).0
-proper_action retract h = tt
-proper_action end h = tt
-proper_action bye h = tt
-proper_action quit h = tt
+-- an action that can be written, and so can the commands inside it
+pub record IsProperAction (a : WithInner ActionTree) : Type 0 where
+  pub tree : IsActionOver (IsNameBeside a.inner) a.tree
+  pub inner : AreWritableNests a.inner
+
+bare_action : (a : ActionTree) → IsActionOver IsVariable a → IsProperAction (bare a)
+bare_action a h = record { tree = h; inner = tt }
+
+proper_action : {ts r : List Terminal} {a : WithInner ActionTree} → SpellsAction ts a r → AreProperTerminals ts → IsProperAction a
+proper_action (assign p) h = let c = proper_result p h.1 in record { tree = (h.0, c.0.tree); inner = c.0.inner }
+proper_action (result p) h = let c = proper_result p h in record { tree = c.0.tree; inner = c.0.inner }
+proper_action (query p) h = let c = proper_query p h in record { tree = c.0.tree; inner = c.0.inner }
+proper_action (choose {s = s} is) h = bare_action (Choose s) tt
+proper_action (load p) h = bare_action Ignored tt
+proper_action (on p) h = bare_action Ignored tt
+proper_action (off p) h = bare_action Ignored tt
+proper_action (assume p) h = let a = proper_atoms p h in record { tree = a.0.named 0; inner = a.0.inner }
+proper_action retract h = bare_action Retract tt
+proper_action end h = bare_action Finish tt
+proper_action bye h = bare_action Finish tt
+proper_action quit h = bare_action Finish tt
 
 pub proper_statement : {ts : List Terminal} {s : StatementTree} → SpellsStatement ts s → AreProperTerminals ts → IsWritable s
-proper_statement (nothing is) h = subst IsWritable (sym is) tt
-proper_statement (acting p is) h = subst IsWritable (sym is) (proper_action p h)
+proper_statement (nothing is) h = subst IsWritable (sym is) (record { action = tt; inner = tt })
+proper_statement (acting p is) h = let a = proper_action p h in subst IsWritable (sym is) (record { action = a.tree; inner = a.inner })

@@ -1,5 +1,5 @@
 -- Whatever is read is spelled by the grammar.
-use Rattle.std.proofs.Common.{◌≡◌, ℕ, ◌<◌, ◌≤◌, Bool, true, false, List, [], ◌∷◌, ◌++◌, sym, refl, subst, arith, append_assoc}
+use Rattle.std.proofs.Common.{◌≡◌, ℕ, ◌<◌, ◌≤◌, Bool, true, false, List, [], ◌∷◌, ◌++◌, sym, refl, ap, ◌∙◌, subst, arith, append_assoc}
 use Rattle.std.specs.Prelude.{Option, Some, None, nat_lt, nat_le, if◌then◌else◌}
 use Rattle.std.proofs.lemmas.Bool.{ltb-true, leb-true}
 use Rattle.formula_meaning.specs.Formula.{Yes, No, One}
@@ -7,21 +7,25 @@ use Rattle.formula_meaning.specs.declared.junction.Junction.TheVariants.{Conjunc
 use Rattle.formula_meaning.specs.declared.quantifier.Quantifier.TheVariants.{Exists, ForAll}
 use Rattle.qe_syntax.specs.declared.tree.Relation.{Relation}
 use Rattle.qe_syntax.specs.declared.tree.Relation.TheVariants.{Differs}
-use Rattle.qe_syntax.specs.Trees.{TermTree, Number, Power, Cong, Ncong, FormulaTree}
+use Rattle.qe_syntax.specs.Trees.{TermTree, Number, Power, Compare}
+use Rattle.qe_syntax.specs.Holes.{whole}
 use Rattle.redlog_tokens.specs.declared.terminal.Terminal.{Terminal}
 use Rattle.redlog_tokens.specs.declared.terminal.Terminal.TheVariants as terminal
 use Rattle.redlog_tokens.specs.declared.terminal.Mark.TheVariants as mark
+use Rattle.redlog_tokens.specs.declared.terminal.Word.{Word}
 use Rattle.redlog_tokens.specs.declared.terminal.Word.TheVariants as word
 use Rattle.redlog_reader.specs.declared.pending.Arrow.TheVariants as arrow
-use Rattle.redlog_reader.specs.Machine.{Reading, term_of, formula_of, Frame, Group, Quantified, Congruence, Negation, Compares, Added, Multiplied, Listed, Arrows}
-use Rattle.redlog_reader.specs.Machine.{Mode, Wants, Fresh, Held, Raised, Binder, Binding, NameWanted, NameRead, Scoped, Congruent, Outcome, Fails, Stops, Moves, strength, level, takes, on_term, on_formula, folded, continued, factors, members, listed, grouped, pushed, multiplies, adds, compares, joins, implies, closed, separated, operated, joined, held, fresh, wanted, step, run}
-use Rattle.redlog_reader.specs.Grammar.{quantified_names, SpellsFactor, number, inner_sum, raised, SpellsProduct, product, Factors, times, over, SpellsSum, sum, plus_sum, minus_sum, Members, plus, minus}
+use Rattle.redlog_reader.specs.Machine.{Reading, term_of, formula_of, Frame, Group, Quantified, Congruence, Negation, Compares, Added, Multiplied, Listed, Arrows, Commanded, Assumes, Relates, Call, with_atom, answered}
+use Rattle.redlog_reader.specs.Machine.{Mode, Wants, Fresh, Held, Raised, Binder, Binding, NameWanted, NameRead, Scoped, Congruent, BraceWanted, AtomWanted, AtomEnd, GivenEnd, Outcome, Fails, Stops, Moves, strength, level, takes, on_term, on_formula, folded, continued, factors, members, listed, grouped, pushed, multiplies, adds, compares, joins, implies, congruence_of, congruence_read, closed, separated, enclosed, commands, atom_begins, assumes_nothing, operated, joined, held, fresh, wanted, step, run}
+use Rattle.redlog_reader.specs.declared.inner_word.InnerWord.{InnerWord}
+use Rattle.redlog_reader.specs.Grammar as grammar
+use Rattle.redlog_reader.specs.Grammar.{Written, quantified_names, inner_word, takes_given, SpellsFactor, number, inner_sum, raised, SpellsProduct, product, Factors, times, quotient, SpellsSum, sum, plus_sum, minus_sum, Members, plus, minus}
 use Rattle.redlog_reader.specs.QuantifierWord.{quantifier_word}
-use Rattle.redlog_reader.specs.Grammar.{IsRelation, relation_sign, relation_word, congruent, incongruent, Names, last_name, more_names, SpellsNames, one_name, many_names}
-use Rattle.redlog_reader.specs.Grammar.{SpellsPrime, truth, falsity, congruence, inner_formula, exists, for_all, SpellsConjunction, conjunction, Conjuncts, conjunct, SpellsDisjunction, disjunction, Disjuncts, disjunct}
+use Rattle.redlog_reader.specs.Grammar.{IsRelation, relation_sign, relation_word, comparison, SpellsCongruence, congruent, incongruent, SpellsAtom, compared_atom, congruent_atom, last_item, more_items, empty, SpellsAtoms, Names, last_name, more_names, SpellsNames, one_name, many_names}
+use Rattle.redlog_reader.specs.Grammar.{SpellsPrime, truth, falsity, congruence, inner_formula, exists, for_all, inner_under, SpellsConjunction, conjunction, Conjuncts, conjunct, SpellsDisjunction, disjunction, Disjuncts, disjunct}
 use Rattle.redlog_reader.specs.Grammar.{SpellsReplication, replication, Repls, repl, SpellsFormula, equivalence, Equivs, equiv}
 use Rattle.redlog_reader.proofs.Steps.{strength_at, outcome}
-use Rattle.redlog_reader.proofs.SoundSteps.{TermAt, FormulaAt, term_raise, formula_raise, Said, SaidFresh, said_fresh, said_term, fresh_term, fresh_formula, fresh_name, congruence_word, Onward, yields, Begun, bottom, above, HeldAt, FoldedAt, folded_said}
+use Rattle.redlog_reader.proofs.SoundSteps.{TermAt, FormulaAt, term_raise, formula_raise, Said, SaidFresh, said_fresh, said_term, fresh_term, fresh_formula, fresh_name, congruence_word, Called, Assuming, Onward, yields, Begun, bottom, above, HeldAt, FoldedAt, folded_said}
 
 -- what the terminals before us have begun and said
 abbrev pub State : ℕ → List Terminal → Mode → List Frame → List Terminal → Type 0
@@ -40,6 +44,12 @@ State goal start (NameRead quantifier xs) fs us =
 State goal start (Scoped quantifier xs) fs us =
     (vs : List Terminal) × Begun goal start fs (terminal.Word (quantifier_word quantifier) ∷ terminal.Mark mark.Open ∷ vs) × SpellsNames vs xs us
 State goal start (Congruent positive) fs us = Begun goal start fs (terminal.Word (congruence_word positive) ∷ us)
+State goal start (BraceWanted c) fs us = (ts : List Terminal) × Begun goal start fs ts × Called c.word c.formula ts us × (c.atoms ≡ [])
+State goal start (AtomWanted c) fs us = (ts : List Terminal) × Begun goal start fs ts × (a : Assuming c ts us) × (c.atoms ≡ [] → a.list ≡ us)
+State goal start (AtomEnd c) fs us =
+    (ts : List Terminal) × Begun goal start fs ts × (vs : List Terminal) × Called c.word c.formula ts (terminal.Mark mark.OpenBrace ∷ vs) × grammar.Listed SpellsAtom vs c.atoms us
+    × ((gs : List Written) (ws rest : List Terminal) → us ≡ terminal.Mark mark.Comma ∷ ws → grammar.Listed SpellsAtom ws gs rest → grammar.Listed SpellsAtom vs (c.atoms ++ gs) rest)
+State goal start (GivenEnd c) fs us = (ts : List Terminal) × Begun goal start fs ts × (vs : List Terminal) × Called c.word c.formula ts vs × SpellsAtoms vs c.atoms us
 
 -- what a step from before t and us says
 abbrev pub Fine : ℕ → List Terminal → Terminal → List Terminal → Outcome → Type 0
@@ -60,7 +70,7 @@ module _ (goal : ℕ) (start : List Terminal) (t : Terminal) (us : List Terminal
   on_term_fine None make fine = tt
   on_term_fine (Some s) make fine = fine s refl
 
-  on_formula_fine : (o : Option FormulaTree) (make : FormulaTree → Outcome) → ((f : FormulaTree) → o ≡ Some f → Fine goal start t us (make f)) → Fine goal start t us (on_formula o make Fails)
+  on_formula_fine : (o : Option Written) (make : Written → Outcome) → ((f : Written) → o ≡ Some f → Fine goal start t us (make f)) → Fine goal start t us (on_formula o make Fails)
   on_formula_fine None make fine = tt
   on_formula_fine (Some f) make fine = fine f refl
 
@@ -78,28 +88,50 @@ module _ (goal : ℕ) (start us : List Terminal) where
   members_onward fs {mid = mid} n t begun p le small = (mid, begun, λ s rest m. sum (term_raise n 1 mid us t small p) m)
 
   -- the list, with what is held as its last part
-  conjuncts_onward : (fs : List Frame) {mid : List Terminal} (n : ℕ) (f : FormulaTree) → Begun goal start fs mid → FormulaAt n mid f us → n ≤ takes goal fs → n ≤ 3
-      → (ts : List Terminal) × Begun goal start (listed Conjunction fs f).1 ts × ((s : FormulaTree) (rest : List Terminal) → Conjuncts (listed Conjunction fs f).0 us s rest → SpellsConjunction ts s rest)
+  conjuncts_onward : (fs : List Frame) {mid : List Terminal} (n : ℕ) (f : Written) → Begun goal start fs mid → FormulaAt n mid f us → n ≤ takes goal fs → n ≤ 3
+      → (ts : List Terminal) × Begun goal start (listed Conjunction fs f).1 ts × ((s : Written) (rest : List Terminal) → Conjuncts (listed Conjunction fs f).0 us s rest → SpellsConjunction ts s rest)
   conjuncts_onward (Listed Conjunction before ∷ fs) n f (above {ts = ts} begun fits on) p le small = (ts, begun, λ s rest m. on f us (formula_raise n 3 _ us f small p) s rest m)
   conjuncts_onward fs {mid = mid} n f begun p le small = (mid, begun, λ s rest m. conjunction (formula_raise n 3 mid us f small p) m)
 
   -- the list, with what is held as its last part
-  disjuncts_onward : (fs : List Frame) {mid : List Terminal} (n : ℕ) (f : FormulaTree) → Begun goal start fs mid → FormulaAt n mid f us → n ≤ takes goal fs → n ≤ 4
-      → (ts : List Terminal) × Begun goal start (listed Disjunction fs f).1 ts × ((s : FormulaTree) (rest : List Terminal) → Disjuncts (listed Disjunction fs f).0 us s rest → SpellsDisjunction ts s rest)
+  disjuncts_onward : (fs : List Frame) {mid : List Terminal} (n : ℕ) (f : Written) → Begun goal start fs mid → FormulaAt n mid f us → n ≤ takes goal fs → n ≤ 4
+      → (ts : List Terminal) × Begun goal start (listed Disjunction fs f).1 ts × ((s : Written) (rest : List Terminal) → Disjuncts (listed Disjunction fs f).0 us s rest → SpellsDisjunction ts s rest)
   disjuncts_onward (Listed Disjunction before ∷ fs) n f (above {ts = ts} begun fits on) p le small = (ts, begun, λ s rest m. on f us (formula_raise n 4 _ us f small p) s rest m)
   disjuncts_onward fs {mid = mid} n f begun p le small = (mid, begun, λ s rest m. disjunction (formula_raise n 4 mid us f small p) m)
 
   -- the list, with what is held as its last part
-  repls_onward : (fs : List Frame) {mid : List Terminal} (n : ℕ) (f : FormulaTree) → Begun goal start fs mid → FormulaAt n mid f us → n ≤ takes goal fs → n ≤ 6
-      → (ts : List Terminal) × Begun goal start (grouped arrow.Repl fs f).1 ts × ((s : FormulaTree) (rest : List Terminal) → Repls (grouped arrow.Repl fs f).0 us s rest → SpellsReplication ts s rest)
+  repls_onward : (fs : List Frame) {mid : List Terminal} (n : ℕ) (f : Written) → Begun goal start fs mid → FormulaAt n mid f us → n ≤ takes goal fs → n ≤ 6
+      → (ts : List Terminal) × Begun goal start (grouped arrow.Repl fs f).1 ts × ((s : Written) (rest : List Terminal) → Repls (grouped arrow.Repl fs f).0 us s rest → SpellsReplication ts s rest)
   repls_onward (Arrows arrow.Repl before ∷ fs) n f (above {ts = ts} begun fits on) p le small = (ts, begun, λ s rest m. on f us (formula_raise n 6 _ us f small p) s rest m)
   repls_onward fs {mid = mid} n f begun p le small = (mid, begun, λ s rest m. replication (formula_raise n 6 mid us f small p) m)
 
   -- the list, with what is held as its last part
-  equivs_onward : (fs : List Frame) {mid : List Terminal} (n : ℕ) (f : FormulaTree) → Begun goal start fs mid → FormulaAt n mid f us → n ≤ takes goal fs → n ≤ 7
-      → (ts : List Terminal) × Begun goal start (grouped arrow.Equiv fs f).1 ts × ((s : FormulaTree) (rest : List Terminal) → Equivs (grouped arrow.Equiv fs f).0 us s rest → SpellsFormula ts s rest)
+  equivs_onward : (fs : List Frame) {mid : List Terminal} (n : ℕ) (f : Written) → Begun goal start fs mid → FormulaAt n mid f us → n ≤ takes goal fs → n ≤ 7
+      → (ts : List Terminal) × Begun goal start (grouped arrow.Equiv fs f).1 ts × ((s : Written) (rest : List Terminal) → Equivs (grouped arrow.Equiv fs f).0 us s rest → SpellsFormula ts s rest)
   equivs_onward (Arrows arrow.Equiv before ∷ fs) n f (above {ts = ts} begun fits on) p le small = (ts, begun, λ s rest m. on f us (formula_raise n 7 _ us f small p) s rest m)
   equivs_onward fs {mid = mid} n f begun p le small = (mid, begun, λ s rest m. equivalence (formula_raise n 7 mid us f small p) m)
+
+-- an atom and a comma after the atoms so far
+more_atoms : (c : Call) {ts us : List Terminal} → (a : Assuming c ts us) → (f : Written) (vs : List Terminal) → SpellsAtom us f (terminal.Mark mark.Comma ∷ vs)
+    → (gs : List Written) (rest : List Terminal) → grammar.Listed SpellsAtom vs gs rest → grammar.Listed SpellsAtom a.list ((c.atoms ++ f ∷ []) ++ gs) rest
+more_atoms c a f vs p gs rest q = subst (λ v. grammar.Listed SpellsAtom a.list v rest) (sym (append_assoc c.atoms (f ∷ []) gs)) (a.onward (f ∷ gs) rest (more_items p q))
+
+-- a comparison that a command assumes
+related : (c : Call) (r : Relation) (x : TermTree) {ts us rest : List Terminal} → (on : Onward (Relates c r x) ts us) → (t : TermTree) → SpellsSum us t rest → SpellsAtom on.0 (whole (One (Compare r x t))) rest
+related c r x on t p = compared_atom (comparison on.3 on.4 p)
+
+no_atoms : (fs : List Written) → assumes_nothing fs ≡ true → fs ≡ []
+no_atoms [] e = refl
+no_atoms (f ∷ fs) e = absurd (let no : ⊥ = cc in no)
+
+some_atoms : (fs : List Written) (f : Written) → fs ++ f ∷ [] ≡ [] → ⊥
+some_atoms [] f e = cc
+some_atoms (g ∷ fs) f e = cc
+
+-- a list has a member
+listed_some : {ts rest : List Terminal} {fs : List Written} → grammar.Listed SpellsAtom ts fs rest → fs ≡ [] → ⊥
+listed_some (last_item p) e = cc
+listed_some (more_items p q) e = cc
 
 module _ (goal : ℕ) (start : List Terminal) (us : List Terminal) where
   module _ (fs : List Frame) (h : Reading) where
@@ -111,7 +143,7 @@ module _ (goal : ℕ) (start : List Terminal) (us : List Terminal) where
     over_fine : HeldAt goal start 1 (terminal.Mark mark.Slash ∷ us) fs h → Fine goal start (terminal.Mark mark.Slash) us (multiplies goal true fs h)
     over_fine at = on_term_fine goal start (terminal.Mark mark.Slash) us (term_of h) _ (λ s e.
         let list = factors_onward goal start (terminal.Mark mark.Slash ∷ us) fs at.n s at.begun (at.said.term s e) at.within at.tighter in
-        pushed_fine goal start (terminal.Mark mark.Slash) us (Multiplied true (factors fs s).0) (factors fs s).1 list.1 (λ x vs p y rest m. list.2 y rest (over p m)) refl)
+        pushed_fine goal start (terminal.Mark mark.Slash) us (Multiplied true (factors fs s).0) (factors fs s).1 list.1 (λ x vs p y rest m. list.2 y rest (quotient p m)) refl)
 
     plus_fine : HeldAt goal start 2 (terminal.Mark mark.Plus ∷ us) fs h → Fine goal start (terminal.Mark mark.Plus) us (adds goal false fs h)
     plus_fine at = on_term_fine goal start (terminal.Mark mark.Plus) us (term_of h) _ (λ s e.
@@ -147,9 +179,24 @@ module _ (goal : ℕ) (start : List Terminal) (us : List Terminal) where
     impl_fine at = on_formula_fine goal start (terminal.Word word.Impl) us (formula_of h) _ (λ f e.
         pushed_fine goal start (terminal.Word word.Impl) us (Arrows arrow.Impl f) fs at.begun (formula_raise at.n 5 at.mid (terminal.Word word.Impl ∷ us) f at.tighter (at.said.formula f e)) refl)
 
-    compares_fine : (sign : Terminal) (r : Relation) → IsRelation sign r → HeldAt goal start 3 (sign ∷ us) fs h → Fine goal start sign us (compares goal r fs h)
-    compares_fine sign r is at = on_term_fine goal start sign us (term_of h) _ (λ s e.
-        pushed_fine goal start sign us (Compares r s) fs at.begun (sign, term_raise at.n 2 at.mid (sign ∷ us) s at.tighter (at.said.term s e), is) refl)
+  compares_fine : (fs : List Frame) (h : Reading) (sign : Terminal) (r : Relation) → IsRelation sign r → {mid : List Terminal} → Begun goal start fs mid → (n : ℕ) → Said n mid h (sign ∷ us) → n ≤ 2
+      → Fine goal start sign us (compares goal r fs h)
+  compares_fine (Assumes c ∷ fs) h sign r is {mid = mid} (above begun fits on) n said small = on_term_fine goal start sign us (term_of h) _ (λ s e.
+      above begun (omega arith) (mid, sign, on, term_raise n 2 mid (sign ∷ us) s small (said.term s e), is))
+  compares_fine fs h sign r is {mid = mid} begun n said small = on_term_fine goal start sign us (term_of h) _ (λ s e.
+      pushed_fine goal start sign us (Compares r s) fs begun (sign, term_raise n 2 mid (sign ∷ us) s small (said.term s e), is) refl)
+
+  -- a congruence is an atom that a command assumes, or a prime formula
+  congruence_fine : (t : Terminal) (fs : List Frame) (f : Written) {ts : List Terminal} → Begun goal start fs ts → SpellsCongruence ts f us → Fine goal start t us (congruence_read fs f)
+  congruence_fine t (Assumes c ∷ fs) f {ts = mid} (above {ts = ts} begun fits on) p = (
+    ts,
+    begun,
+    on.list,
+    on.called,
+    on.onward (f ∷ []) us (last_item (congruent_atom p)),
+    λ gs ws rest at q. more_atoms c on f ws (subst (λ v. SpellsAtom mid f v) at (congruent_atom p)) gs rest q,
+  )
+  congruence_fine t fs f {ts = ts} begun p = (ts, begun, fresh_formula f (congruence p))
 
   -- a closing bracket
   closed_fine : (fs : List Frame) (h : Reading) {mid : List Terminal} → Begun goal start fs mid → (n : ℕ) → Said n mid h (terminal.Mark mark.Close ∷ us) → n ≤ takes goal fs → Fine goal start (terminal.Mark mark.Close) us (closed fs h)
@@ -166,10 +213,24 @@ module _ (goal : ℕ) (start : List Terminal) (us : List Terminal) where
   closed_fine (Quantified Exists xs ∷ fs) h {mid = mid} (above {ts = ts} begun fits on) n said le = on_formula_fine goal start (terminal.Mark mark.Close) us (formula_of h) _ (λ f e.
       (ts, begun, fresh_formula (quantified_names Exists xs f) (subst (λ v. SpellsPrime v (quantified_names Exists xs f) us) (sym on.1) (exists on.2 (formula_raise n 8 mid (terminal.Mark mark.Close ∷ us) f le (said.formula f e)) refl))))
   closed_fine (Congruence true (x ∷ y ∷ []) ∷ fs) h {mid = mid} (above {ts = ts} begun fits on) n said le = on_term_fine goal start (terminal.Mark mark.Close) us (term_of h) _ (λ m e.
-      (ts, begun, fresh_formula (One (Cong x y m)) (subst (λ v. SpellsPrime v (One (Cong x y m)) us) (sym on.1) (congruence (congruent on.2.1 on.2.2 (term_raise n 2 mid (terminal.Mark mark.Close ∷ us) m le (said.term m e)))))))
+      congruence_fine (terminal.Mark mark.Close) fs (congruence_of true x y m) begun
+      (subst (λ v. SpellsCongruence v (congruence_of true x y m) us) (sym on.1) (congruent on.2.1 on.2.2 (term_raise n 2 mid (terminal.Mark mark.Close ∷ us) m le (said.term m e)))))
   closed_fine (Congruence false (x ∷ y ∷ []) ∷ fs) h {mid = mid} (above {ts = ts} begun fits on) n said le = on_term_fine goal start (terminal.Mark mark.Close) us (term_of h) _ (λ m e.
-      (ts, begun, fresh_formula (One (Ncong x y m)) (subst (λ v. SpellsPrime v (One (Ncong x y m)) us) (sym on.1) (congruence (incongruent on.2.1 on.2.2 (term_raise n 2 mid (terminal.Mark mark.Close ∷ us) m le (said.term m e)))))))
+      congruence_fine (terminal.Mark mark.Close) fs (congruence_of false x y m) begun
+      (subst (λ v. SpellsCongruence v (congruence_of false x y m) us) (sym on.1) (incongruent on.2.1 on.2.2 (term_raise n 2 mid (terminal.Mark mark.Close ∷ us) m le (said.term m e)))))
   closed_fine _ h begun n said le = tt
+
+  -- the comma after the formula of a command, where this may assume atoms
+  given_choice : (i : InnerWord) (fs : List Frame) (h : Reading) {ts mid : List Terminal} → Begun goal start fs ts → (w : Word) → inner_word w ≡ Some i → ts ≡ terminal.Word w ∷ terminal.Mark mark.Open ∷ mid
+      → (n : ℕ) → Said n mid h (terminal.Mark mark.Comma ∷ us) → n ≤ 8 → (b : Bool) → takes_given i ≡ b
+      → Fine goal start (terminal.Mark mark.Comma) us (if b then on_formula (formula_of h) (λ f. Moves fs (BraceWanted (record { word = i; formula = f; atoms = [] }))) Fails else Fails)
+  given_choice i fs h begun w is at n said le false test = tt
+  given_choice i fs h {ts = ts} {mid = mid} begun w is at n said le true test = on_formula_fine goal start (terminal.Mark mark.Comma) us (formula_of h) _ (λ f e. (
+    ts,
+    begun,
+    record { word = w; inside = mid; begins = at; named = is; takes = test; formula = formula_raise n 8 mid (terminal.Mark mark.Comma ∷ us) f le (said.formula f e) },
+    refl,
+  ))
 
   -- a comma
   separated_fine : (fs : List Frame) (h : Reading) {mid : List Terminal} → Begun goal start fs mid → (n : ℕ) → Said n mid h (terminal.Mark mark.Comma ∷ us) → n ≤ takes goal fs → Fine goal start (terminal.Mark mark.Comma) us (separated fs h)
@@ -177,15 +238,31 @@ module _ (goal : ℕ) (start : List Terminal) (us : List Terminal) where
       above begun fits (on.0, on.1, subst (λ v. SpellsSum v t (terminal.Mark mark.Comma ∷ us)) (sym on.2) (term_raise n 2 mid (terminal.Mark mark.Comma ∷ us) t le (said.term t e))))
   separated_fine (Congruence positive (x ∷ []) ∷ fs) h {mid = mid} (above {ts = ts} begun fits on) n said le = on_term_fine goal start (terminal.Mark mark.Comma) us (term_of h) _ (λ t e.
       above begun fits (on.0, on.1, (mid, on.2, term_raise n 2 mid (terminal.Mark mark.Comma ∷ us) t le (said.term t e))))
+  separated_fine (Group ∷ Commanded i ∷ fs) h (above (above begun fits on) least is) n said le =
+      given_choice i fs h begun on.0 on.1 (on.2 ∙ ap (λ v. terminal.Word on.0 ∷ v) is) n said le (takes_given i) refl
+  separated_fine (Relates c r x ∷ fs) h {mid = mid} (above {ts = ts} begun fits on) n said le = on_term_fine goal start (terminal.Mark mark.Comma) us (term_of h) _ (λ t e.
+      let atom = related c r x on t (term_raise n 2 mid (terminal.Mark mark.Comma ∷ us) t le (said.term t e)) in
+      let f : Written = whole (One (Compare r x t)) in
+      let later : Assuming (with_atom c f) ts us = record { list = on.2.list; called = on.2.called; onward = more_atoms c on.2 f us atom } in
+      (ts, begun, later, λ none. absurd (let no : ⊥ = some_atoms c.atoms f none in no)))
   separated_fine _ h begun n said le = tt
+
+  -- a closing brace
+  enclosed_fine : (fs : List Frame) (h : Reading) {mid : List Terminal} → Begun goal start fs mid → (n : ℕ) → Said n mid h (terminal.Mark mark.CloseBrace ∷ us) → n ≤ takes goal fs
+      → Fine goal start (terminal.Mark mark.CloseBrace) us (enclosed fs h)
+  enclosed_fine (Relates c r x ∷ fs) h {mid = mid} (above {ts = ts} begun fits on) n said le = on_term_fine goal start (terminal.Mark mark.CloseBrace) us (term_of h) _ (λ t e.
+      let atom = related c r x on t (term_raise n 2 mid (terminal.Mark mark.CloseBrace ∷ us) t le (said.term t e)) in
+      let f : Written = whole (One (Compare r x t)) in
+      (ts, begun, terminal.Mark mark.OpenBrace ∷ on.2.list, on.2.called, grammar.listed (on.2.onward (f ∷ []) (terminal.Mark mark.CloseBrace ∷ us) (last_item atom))))
+  enclosed_fine _ h begun n said le = tt
 
   operated_fine : (t : Terminal) (fs : List Frame) (h : Reading) → HeldAt goal start (strength t) (t ∷ us) fs h → Fine goal start t us (operated goal t fs h)
   operated_fine (terminal.Mark mark.Times) fs h at = times_fine fs h at
   operated_fine (terminal.Mark mark.Slash) fs h at = over_fine fs h at
   operated_fine (terminal.Mark mark.Plus) fs h at = plus_fine fs h at
   operated_fine (terminal.Mark mark.Minus) fs h at = minus_fine fs h at
-  operated_fine (terminal.Relation r) fs h at = compares_fine fs h (terminal.Relation r) r relation_sign at
-  operated_fine (terminal.Word word.Neq) fs h at = compares_fine fs h (terminal.Word word.Neq) Differs relation_word at
+  operated_fine (terminal.Relation r) fs h at = compares_fine fs h (terminal.Relation r) r relation_sign at.begun at.n at.said at.tighter
+  operated_fine (terminal.Word word.Neq) fs h at = compares_fine fs h (terminal.Word word.Neq) Differs relation_word at.begun at.n at.said at.tighter
   operated_fine (terminal.Word word.And) fs h at = and_fine fs h at
   operated_fine (terminal.Word word.Or) fs h at = or_fine fs h at
   operated_fine (terminal.Word word.Impl) fs h at = impl_fine fs h at
@@ -193,6 +270,7 @@ module _ (goal : ℕ) (start : List Terminal) (us : List Terminal) where
   operated_fine (terminal.Word word.Equiv) fs h at = equiv_fine fs h at
   operated_fine (terminal.Mark mark.Close) fs h at = closed_fine fs h at.begun at.n at.said at.within
   operated_fine (terminal.Mark mark.Comma) fs h at = separated_fine fs h at.begun at.n at.said at.within
+  operated_fine (terminal.Mark mark.CloseBrace) fs h at = enclosed_fine fs h at.begun at.n at.said at.within
   operated_fine _ fs h at = tt
 
   stop_choice : (t : Terminal) (h : Reading) → HeldAt goal start (strength t) (t ∷ us) [] h → {mid : List Terminal} → Begun goal start [] mid → (n : ℕ) → Said n mid h (t ∷ us) → n ≤ goal → (b : Bool) → nat_lt goal (strength t) ≡ b
@@ -217,20 +295,41 @@ module _ (goal : ℕ) (start : List Terminal) (us : List Terminal) where
   fresh_fine (terminal.Mark mark.Power) fs h {mid = mid} begun said = on_term_fine goal start (terminal.Mark mark.Power) us (term_of h) _ (λ s e. (mid, begun, said.term s e))
   fresh_fine t fs h begun said = held_fine t fs h begun (said_fresh said)
 
+  commands_fine : (w : Word) (fs : List Frame) → Begun goal start fs (terminal.Word w ∷ us) → (o : Option InnerWord) → inner_word w ≡ o → Fine goal start (terminal.Word w) us (commands o fs)
+  commands_fine w fs begun None is = tt
+  commands_fine w fs begun (Some i) is = above begun (omega arith) (w, is, refl)
+
   wanted_fine : (t : Terminal) (fs : List Frame) → Begun goal start fs (t ∷ us) → Fine goal start t us (wanted goal t fs)
   wanted_fine (terminal.Number n) fs begun = (terminal.Number n ∷ us, begun, fresh_term (Number n) number)
   wanted_fine (terminal.Name x) fs begun = (terminal.Name x ∷ us, begun, fresh_name x us)
   wanted_fine (terminal.Mark mark.Open) fs begun = above begun (omega arith) refl
   wanted_fine (terminal.Mark mark.Plus) fs begun = pushed_fine goal start (terminal.Mark mark.Plus) us (Added false []) fs begun (λ x vs p y rest m. plus_sum p m) refl
   wanted_fine (terminal.Mark mark.Minus) fs begun = pushed_fine goal start (terminal.Mark mark.Minus) us (Added true []) fs begun (λ x vs p y rest m. minus_sum p m) refl
-  wanted_fine (terminal.Word word.True) fs begun = (terminal.Word word.True ∷ us, begun, fresh_formula Yes truth)
-  wanted_fine (terminal.Word word.False) fs begun = (terminal.Word word.False ∷ us, begun, fresh_formula No falsity)
+  wanted_fine (terminal.Word word.True) fs begun = (terminal.Word word.True ∷ us, begun, fresh_formula (whole Yes) truth)
+  wanted_fine (terminal.Word word.False) fs begun = (terminal.Word word.False ∷ us, begun, fresh_formula (whole No) falsity)
   wanted_fine (terminal.Word word.Not) fs begun = pushed_fine goal start (terminal.Word word.Not) us Negation fs begun refl refl
   wanted_fine (terminal.Word word.Ex) fs begun = begun
   wanted_fine (terminal.Word word.All) fs begun = begun
   wanted_fine (terminal.Word word.Cong) fs begun = begun
   wanted_fine (terminal.Word word.Ncong) fs begun = begun
+  wanted_fine (terminal.Word w) fs begun = commands_fine w fs begun (inner_word w) refl
   wanted_fine _ fs begun = tt
+
+  -- the brace behind no atom at all
+  assumes_choice : (c : Call) (fs : List Frame) → State goal start (AtomWanted c) fs (terminal.Mark mark.CloseBrace ∷ us) → (b : Bool) → assumes_nothing c.atoms ≡ b
+      → Fine goal start (terminal.Mark mark.CloseBrace) us (if b then Moves fs (GivenEnd c) else Fails)
+  assumes_choice c fs s false test = tt
+  assumes_choice c fs s true test =
+      let none = no_atoms c.atoms test in
+      let list : List Terminal = terminal.Mark mark.OpenBrace ∷ s.2.list in
+      let given : SpellsAtoms list c.atoms us =
+      subst (λ v. SpellsAtoms (terminal.Mark mark.OpenBrace ∷ v) c.atoms us) (sym (s.3 none))
+      (subst (λ gs. SpellsAtoms (terminal.Mark mark.OpenBrace ∷ terminal.Mark mark.CloseBrace ∷ us) gs us) (sym none) empty) in
+      (s.0, s.1, list, s.2.called, given)
+
+  atom_fine : (c : Call) (t : Terminal) (fs : List Frame) → State goal start (AtomWanted c) fs (t ∷ us) → Fine goal start t us (atom_begins goal c t fs)
+  atom_fine c (terminal.Mark mark.CloseBrace) fs s = assumes_choice c fs s (assumes_nothing c.atoms) refl
+  atom_fine c t fs s = wanted_fine t (Assumes c ∷ fs) (above s.1 (omega arith) s.2)
 
   -- each step goes on from what is spelled to what is spelled
   step_fine : (mode : Mode) (t : Terminal) (fs : List Frame) → State goal start mode fs (t ∷ us) → Fine goal start t us (step goal fs mode t)
@@ -252,6 +351,17 @@ module _ (goal : ℕ) (start : List Terminal) (us : List Terminal) where
   step_fine (NameRead quantifier xs) (terminal.Mark mark.CloseBrace) fs s = (terminal.Mark mark.OpenBrace ∷ s.0, s.1, many_names s.2)
   step_fine (Scoped quantifier xs) (terminal.Mark mark.Comma) fs s = above s.1 (omega arith) (s.0, refl, s.2)
   step_fine (Congruent positive) (terminal.Mark mark.Open) fs s = above s (omega arith) (us, refl, refl)
+  step_fine (BraceWanted c) (terminal.Mark mark.OpenBrace) fs s =
+      (s.0, s.1, record { list = us; called = s.2; onward = λ gs rest p. subst (λ xs. grammar.Listed SpellsAtom us (xs ++ gs) rest) (sym s.3) p }, λ none. refl)
+  step_fine (AtomWanted c) t fs s = atom_fine c t fs s
+  step_fine (AtomEnd c) (terminal.Mark mark.Comma) fs s =
+      (s.0, s.1, record { list = s.2; called = s.3; onward = λ gs rest p. s.5 gs us rest refl p }, λ none. absurd (let no : ⊥ = listed_some s.4 none in no))
+  step_fine (AtomEnd c) (terminal.Mark mark.CloseBrace) fs s = (s.0, s.1, terminal.Mark mark.OpenBrace ∷ s.2, s.3, grammar.listed s.4)
+  step_fine (GivenEnd c) (terminal.Mark mark.Close) fs s = (
+    s.0,
+    s.1,
+    fresh_formula (answered c) (subst (λ v. SpellsPrime v (answered c) us) (sym s.3.begins) (inner_under s.3.named s.3.takes s.3.formula s.4 refl)),
+  )
   step_fine _ t fs s = tt
 
 -- what is read is spelled, and what is left begins with a terminal that binds looser than the goal

@@ -9,8 +9,11 @@ use Rattle.qe_syntax.specs.declared.entries.PointEntry.{PointEntry}
 use Rattle.statement_syntax.specs.declared.grid.Ratio.{Ratio}
 use Rattle.statement_syntax.specs.declared.grid.GridAxis.{GridAxis}
 use Rattle.statement_syntax.specs.Constraints.{is_constraint, is_weak_constraint}
-use Rattle.qe_syntax.specs.Trees.{TermTree, FormulaTree, formulas_of}
-use Rattle.statement_syntax.specs.Statements.{CommandTree, Echo, Nnf, Pnf, Dnf, Cnf, Holds, Sample, Grid, Certify, Check, Least, ActionTree, Ignored, Finish, Choose, Say, Retract, StatementTree}
+use Rattle.qe_syntax.specs.Trees.{TermTree}
+use Rattle.qe_syntax.specs.Holes.{all_of}
+use Rattle.statement_syntax.specs.Statements.{CommandTree, Holds, Sample, Grid, Certify, Check, Least, ActionTree, Ignored, Finish, Choose, Say, Retract, StatementTree}
+use Rattle.statement_syntax.specs.Inner.{WithInner, bare, around, about, about_all}
+use Rattle.redlog_reader.specs.declared.inner_word.InnerWord.{InnerWord}
 use Rattle.redlog_tokens.specs.declared.terminal.Terminal.{Terminal}
 use Rattle.redlog_tokens.specs.declared.terminal.Terminal.TheVariants as terminal
 use Rattle.redlog_tokens.specs.declared.terminal.Mark.{Mark}
@@ -18,10 +21,10 @@ use Rattle.redlog_tokens.specs.declared.terminal.Mark.TheVariants as mark
 use Rattle.redlog_tokens.specs.declared.terminal.Word.{Word}
 use Rattle.redlog_tokens.specs.declared.terminal.Word.TheVariants as word
 use Rattle.redlog_reader.specs.Machine.{term_of, formula_of, Wants, run}
-use Rattle.redlog_reader.specs.Grammar.{SpellsSum, IsRelation, relation_sign, relation_word, SpellsComparison, comparison, SpellsCongruence, SpellsAtom, compared_atom, congruent_atom}
-use Rattle.redlog_reader.specs.Grammar.{SpellsPrime, truth, falsity, named_formula, congruence, inner_formula, exists, for_all, SpellsFormula, setting_of, IsAny, any_name, any_word, SpellsAnys, last_any, more_anys, Above, unsigned, opposed, Below, one, divided, SpellsEntry, entry, Listed, last_item, more_items, Braced, empty, listed, SpellsPoint, SpellsAtoms}
-use Rattle.redlog_reader.specs.Grammar.{SpellsArgument, alone, under, SpellsResult, echo, nnf, pnf, dnf, cnf, simpl, qe, SpellsRatio, ratio, SpellsAxis, axis, SpellsBound, bound, SpellsBounds, SpellsWeak, weak, SpellsWeaks, SpellsWholes, qea, holds, witness, grid, certify, check, least, SpellsAction, assign, result, query, choose, load, on, off, assume, retract, end, bye, quit, end_mark, SpellsStatement, nothing, acting}
-use Rattle.redlog_reader.specs.Reader.{on_some, after_mark, formula_read, sum_read, relation_of, relation_read, comparison_read, begins_congruence, atom_read, bound_read, weak_read, listed_read, items_read, braced_read, number_read, above_read, below_read, name_read, after_equal, entry_read, ratio_read, axis_read, argument_read, pointed_read, grid_read, certified_read, checked_read, least_read, result_from, result_read, is_any, anys_read, ignored_read, said, action_from, action_read, ending, statement_read}
+use Rattle.redlog_reader.specs.Grammar.{Written, inner_word, SpellsSum, IsRelation, relation_sign, relation_word, SpellsComparison, comparison, SpellsCongruence, SpellsAtom, compared_atom, congruent_atom}
+use Rattle.redlog_reader.specs.Grammar.{SpellsPrime, truth, falsity, named_formula, congruence, inner_formula, exists, for_all, inner_command, inner_under, SpellsFormula, setting_of, IsAny, any_name, any_word, SpellsAnys, last_any, more_anys, Above, unsigned, opposed, Below, one, divided, SpellsEntry, entry, Listed, last_item, more_items, Braced, empty, listed, SpellsPoint, SpellsAtoms}
+use Rattle.redlog_reader.specs.Grammar.{SpellsArgument, alone, under, SpellsResult, resulting, SpellsRatio, ratio, SpellsAxis, axis, SpellsBound, bound, SpellsBounds, SpellsWeak, weak, SpellsWeaks, SpellsWholes, qea, holds, witness, grid, certify, check, least, SpellsAction, assign, result, query, choose, load, on, off, assume, retract, end, bye, quit, end_mark, SpellsStatement, nothing, acting}
+use Rattle.redlog_reader.specs.Reader.{on_some, after_mark, formula_read, sum_read, relation_of, relation_read, comparison_read, begins_congruence, atom_read, bound_read, weak_read, listed_read, items_read, braced_read, number_read, above_read, below_read, name_read, after_equal, entry_read, ratio_read, axis_read, argument_read, pointed_read, grid_read, certified_read, checked_read, least_read, result_read, is_any, anys_read, ignored_read, said, action_from, action_read, ending, statement_read}
 use Rattle.redlog_reader.specs.Reader as reader
 use Rattle.redlog_tokens.proofs.ProperTokens.{AreProperTerminals}
 use Rattle.redlog_reader.proofs.Proper.{proper_above, proper_entry, proper_formula, proper_ratio, proper_axis, proper_bounds}
@@ -46,7 +49,7 @@ pair_of {X = X} {Y = Y} {x = x} {u = u} {y = y} {v = v} e =
 same_some : {X : Type 0} {x y : X} → Some x ≡ Some y → x ≡ y
 same_some e = cc
 
-formula_sound : (goal : ℕ) (ts rest : List Terminal) (f : FormulaTree) → formula_read goal ts ≡ Some (f, rest) → FormulaAt goal ts f rest
+formula_sound : (goal : ℕ) (ts rest : List Terminal) (f : Written) → formula_read goal ts ≡ Some (f, rest) → FormulaAt goal ts f rest
 formula_sound goal ts rest f e =
     let ran = some_of (run goal ts [] Wants) _ (f, rest) e in
     let form = some_of (formula_of ran.0.0) _ (f, rest) ran.2 in
@@ -124,7 +127,7 @@ relation_at (t ∷ ts) us r e =
     let same = pair_of found.2 in
     (t, ap (λ v. t ∷ v) same.1, relation_sound t r (found.1 ∙ ap Some same.0))
 
-comparison_sound : (ts rest : List Terminal) (f : FormulaTree) → comparison_read ts ≡ Some (f, rest) → SpellsComparison ts f rest
+comparison_sound : (ts rest : List Terminal) (f : Written) → comparison_read ts ≡ Some (f, rest) → SpellsComparison ts f rest
 comparison_sound ts rest f e =
     let left = some_of (sum_read ts) _ (f, rest) e in
     let sign = some_of (relation_read left.0.1) _ (f, rest) left.2 in
@@ -135,7 +138,12 @@ comparison_sound ts rest f e =
     (comparison (subst (λ v. SpellsSum ts left.0.0 v) at.1 (sum_sound ts left.0.1 left.0.0 left.1)) at.2
     (subst (λ v. SpellsSum sign.0.1 right.0.0 v) same.1 (sum_sound sign.0.1 right.0.1 right.0.0 right.1)))
 
-congruence_only : (ts rest : List Terminal) (f : FormulaTree) → begins_congruence ts ≡ true → SpellsPrime ts f rest → SpellsCongruence ts f rest
+no_congruence : (w : Word) (i : InnerWord) (ts : List Terminal) → inner_word w ≡ Some i → begins_congruence (terminal.Word w ∷ ts) ≡ true → ⊥
+no_congruence word.Cong i ts is b = cc
+no_congruence word.Ncong i ts is b = cc
+no_congruence w i ts is b = cc
+
+congruence_only : (ts rest : List Terminal) (f : Written) → begins_congruence ts ≡ true → SpellsPrime ts f rest → SpellsCongruence ts f rest
 congruence_only ts rest f b (congruence p) = p
 congruence_only ts rest f b truth = absurd (let no : ⊥ = cc in no)
 congruence_only ts rest f b falsity = absurd (let no : ⊥ = cc in no)
@@ -143,12 +151,14 @@ congruence_only ts rest f b named_formula = absurd (let no : ⊥ = cc in no)
 congruence_only ts rest f b (inner_formula p) = absurd (let no : ⊥ = cc in no)
 congruence_only ts rest f b (exists p q is) = absurd (let no : ⊥ = cc in no)
 congruence_only ts rest f b (for_all p q is) = absurd (let no : ⊥ = cc in no)
+congruence_only ts rest f b (inner_command {w = w} {i = i} {ts = us} named p is) = absurd (no_congruence w i us named b)
+congruence_only ts rest f b (inner_under {w = w} {i = i} {ts = us} named takes p q is) = absurd (no_congruence w i (terminal.Mark mark.Open ∷ us) named b)
 
-atom_choice : (ts rest : List Terminal) (f : FormulaTree) (b : Bool) → begins_congruence ts ≡ b → (if b then formula_read 0 ts else comparison_read ts) ≡ Some (f, rest) → SpellsAtom ts f rest
+atom_choice : (ts rest : List Terminal) (f : Written) (b : Bool) → begins_congruence ts ≡ b → (if b then formula_read 0 ts else comparison_read ts) ≡ Some (f, rest) → SpellsAtom ts f rest
 atom_choice ts rest f true is e = congruent_atom (congruence_only ts rest f is (formula_sound 0 ts rest f e))
 atom_choice ts rest f false is e = compared_atom (comparison_sound ts rest f e)
 
-atom_sound : (ts rest : List Terminal) (f : FormulaTree) → atom_read ts ≡ Some (f, rest) → SpellsAtom ts f rest
+atom_sound : (ts rest : List Terminal) (f : Written) → atom_read ts ≡ Some (f, rest) → SpellsAtom ts f rest
 atom_sound ts rest f e = atom_choice ts rest f (begins_congruence ts) refl e
 
 module _ {X : Type 0} (read : List Terminal → Option (X × List Terminal)) (Item : List Terminal → X → List Terminal → Type 0) (P : List Terminal → Type 0)
@@ -188,7 +198,7 @@ module _ {X : Type 0} (read : List Terminal → Option (X × List Terminal)) (It
       listed (subst (λ ys. Listed Item start.0 ys (terminal.Mark mark.CloseBrace ∷ rest)) same.0
       (subst (λ v. Listed Item start.0 items.0.0 v) ended (listed_sound (suc (length start.0)) start.0 items.0.1 items.0.0 (inside start.0 (subst P opened good)) items.1)))))
 
-atoms_sound : (ts rest : List Terminal) (fs : List FormulaTree) → braced_read atom_read ts ≡ Some (fs, rest) → SpellsAtoms ts fs rest
+atoms_sound : (ts rest : List Terminal) (fs : List Written) → braced_read atom_read ts ≡ Some (fs, rest) → SpellsAtoms ts fs rest
 atoms_sound ts rest fs e = braced_sound atom_read SpellsAtom (λ ts. Unit {0}) (λ us r f good h. atom_sound us r f h) (λ us r f good h. tt) (λ us h. tt) ts rest fs (λ us h. tt) tt e
 
 number_sound : (ts rest : List Terminal) (n : Literal) → number_read ts ≡ Some (n, rest) → ts ≡ terminal.Number n ∷ rest
@@ -238,7 +248,7 @@ entry_sound ts rest e good is =
 entries_sound : (ts rest : List Terminal) (es : List PointEntry) → AreProperTerminals ts → braced_read entry_read ts ≡ Some (es, rest) → SpellsPoint ts es rest
 entries_sound ts rest es good e = braced_sound entry_read SpellsEntry AreProperTerminals entry_sound (λ us r x h p. (proper_entry p h).1) (λ us h. h) ts rest es (λ us h. h) good e
 
-argument_sound : (ts rest : List Terminal) (f : FormulaTree) (given : List FormulaTree) → argument_read ts ≡ Some ((f, given), rest) → SpellsArgument ts f given rest
+argument_sound : (ts rest : List Terminal) (f : Written) (given : List Written) → argument_read ts ≡ Some ((f, given), rest) → SpellsArgument ts f given rest
 argument_sound ts rest f given e = either {P = SpellsArgument ts f given rest} (after_mark mark.Open ts) _ _ ((f, given), rest) e
     (λ us at i.
     let opened = sound_Open ts us at in
@@ -269,10 +279,10 @@ argument_sound ts rest f given e = either {P = SpellsArgument ts f given rest} (
     subst (λ gs. SpellsArgument ts f gs rest) parts.1 (alone (subst (λ g. SpellsPrime ts g rest) parts.0 (subst (λ v. SpellsPrime ts form.0.0 v) same.1 spelled))))
 
 -- a formula and a point in brackets
-abbrev Pointed : List Terminal → FormulaTree → List PointEntry → List Terminal → Type 0
+abbrev Pointed : List Terminal → Written → List PointEntry → List Terminal → Type 0
 Pointed ts f es rest = (us : List Terminal) × (vs : List Terminal) × (ts ≡ terminal.Mark mark.Open ∷ us) × SpellsFormula us f (terminal.Mark mark.Comma ∷ vs) × SpellsPoint vs es (terminal.Mark mark.Close ∷ rest)
 
-pointed_sound : (ts rest : List Terminal) (f : FormulaTree) (es : List PointEntry) → AreProperTerminals ts → pointed_read ts ≡ Some ((f, es), rest) → Pointed ts f es rest
+pointed_sound : (ts rest : List Terminal) (f : Written) (es : List PointEntry) → AreProperTerminals ts → pointed_read ts ≡ Some ((f, es), rest) → Pointed ts f es rest
 pointed_sound ts rest f es good e =
     let start = some_of (after_mark mark.Open ts) _ ((f, es), rest) e in
     let opened = sound_Open ts start.0 start.1 in
@@ -331,10 +341,10 @@ axes_sound : (ts rest : List Terminal) (axes : List GridAxis) → AreProperTermi
 axes_sound ts rest axes good e = listed_sound axis_read SpellsAxis AreProperTerminals axis_sound (λ us r x h p. (proper_axis p h).1) (λ us h. h) (suc (length ts)) ts rest axes good e
 
 -- a formula and axes in brackets
-abbrev Gridded : List Terminal → FormulaTree → List GridAxis → List Terminal → Type 0
+abbrev Gridded : List Terminal → Written → List GridAxis → List Terminal → Type 0
 Gridded ts f axes rest = (us : List Terminal) × (vs : List Terminal) × (ts ≡ terminal.Mark mark.Open ∷ us) × SpellsFormula us f (terminal.Mark mark.Comma ∷ vs) × Listed SpellsAxis vs axes (terminal.Mark mark.Close ∷ rest)
 
-grid_sound : (ts rest : List Terminal) (f : FormulaTree) (axes : List GridAxis) → AreProperTerminals ts → grid_read ts ≡ Some ((f, axes), rest) → Gridded ts f axes rest
+grid_sound : (ts rest : List Terminal) (f : Written) (axes : List GridAxis) → AreProperTerminals ts → grid_read ts ≡ Some ((f, axes), rest) → Gridded ts f axes rest
 grid_sound ts rest f axes good e =
     let start = some_of (after_mark mark.Open ts) _ ((f, axes), rest) e in
     let opened = sound_Open ts start.0 start.1 in
@@ -356,36 +366,36 @@ grid_sound ts rest f axes good e =
     )
 
 -- a comparison that is kept meets the test
-test_kept : (meets : FormulaTree → Bool) (p : FormulaTree × List Terminal) (f : FormulaTree) (rest : List Terminal) (b : Bool) → meets p.0 ≡ b → (if b then Some p else None) ≡ Some (f, rest) → (meets f ≡ true) × (p ≡ (f, rest))
-test_kept meets p f rest true is e = let same = same_some e in (ap (λ (q : FormulaTree × List Terminal). meets q.0) (sym same) ∙ is, same)
+test_kept : (meets : Written → Bool) (p : Written × List Terminal) (f : Written) (rest : List Terminal) (b : Bool) → meets p.0 ≡ b → (if b then Some p else None) ≡ Some (f, rest) → (meets f ≡ true) × (p ≡ (f, rest))
+test_kept meets p f rest true is e = let same = same_some e in (ap (λ (q : Written × List Terminal). meets q.0) (sym same) ∙ is, same)
 test_kept meets p f rest false is e = absurd (let no : ⊥ = cc in no)
 
-tested_sound : (meets : FormulaTree → Bool) (ts rest : List Terminal) (f : FormulaTree) → on_some (comparison_read ts) (λ p. if meets p.0 then Some p else None) None ≡ Some (f, rest) → SpellsComparison ts f rest × (meets f ≡ true)
+tested_sound : (meets : Written → Bool) (ts rest : List Terminal) (f : Written) → on_some (comparison_read ts) (λ p. if meets p.0 then Some p else None) None ≡ Some (f, rest) → SpellsComparison ts f rest × (meets f ≡ true)
 tested_sound meets ts rest f e =
     let found = some_of (comparison_read ts) _ (f, rest) e in
     let kept = test_kept meets found.0 f rest (meets found.0.0) refl found.2 in
     (comparison_sound ts rest f (found.1 ∙ ap Some kept.1), kept.0)
 
-bound_sound : (ts rest : List Terminal) (f : FormulaTree) → bound_read ts ≡ Some (f, rest) → SpellsBound ts f rest
-bound_sound ts rest f e = let found = tested_sound is_constraint ts rest f e in bound found.0 found.1
+bound_sound : (ts rest : List Terminal) (f : Written) → bound_read ts ≡ Some (f, rest) → SpellsBound ts f rest
+bound_sound ts rest f e = let found = tested_sound (λ g. is_constraint g.tree) ts rest f e in bound found.0 found.1
 
-bounds_sound : (ts rest : List Terminal) (fs : List FormulaTree) → braced_read bound_read ts ≡ Some (fs, rest) → SpellsBounds ts fs rest
+bounds_sound : (ts rest : List Terminal) (fs : List Written) → braced_read bound_read ts ≡ Some (fs, rest) → SpellsBounds ts fs rest
 bounds_sound ts rest fs e = braced_sound bound_read SpellsBound (λ ts. Unit {0}) (λ us r f good h. bound_sound us r f h) (λ us r f good h. tt) (λ us h. tt) ts rest fs (λ us h. tt) tt e
 
-weak_sound : (ts rest : List Terminal) (f : FormulaTree) → weak_read ts ≡ Some (f, rest) → SpellsWeak ts f rest
-weak_sound ts rest f e = let found = tested_sound is_weak_constraint ts rest f e in weak found.0 found.1
+weak_sound : (ts rest : List Terminal) (f : Written) → weak_read ts ≡ Some (f, rest) → SpellsWeak ts f rest
+weak_sound ts rest f e = let found = tested_sound (λ g. is_weak_constraint g.tree) ts rest f e in weak found.0 found.1
 
-weaks_sound : (ts rest : List Terminal) (fs : List FormulaTree) → braced_read weak_read ts ≡ Some (fs, rest) → SpellsWeaks ts fs rest
+weaks_sound : (ts rest : List Terminal) (fs : List Written) → braced_read weak_read ts ≡ Some (fs, rest) → SpellsWeaks ts fs rest
 weaks_sound ts rest fs e = braced_sound weak_read SpellsWeak (λ ts. Unit {0}) (λ us r f good h. weak_sound us r f h) (λ us r f good h. tt) (λ us h. tt) ts rest fs (λ us h. tt) tt e
 
 wholes_sound : (ts rest : List Terminal) (ns : List Literal) → AreProperTerminals ts → braced_read above_read ts ≡ Some (ns, rest) → SpellsWholes ts ns rest
 wholes_sound ts rest ns good e = braced_sound above_read Above AreProperTerminals above_sound (λ us r n h p. (proper_above p h).1) (λ us h. h) ts rest ns (λ us h. h) good e
 
 -- constraints in brackets
-abbrev Certified : List Terminal → List FormulaTree → List Terminal → Type 0
+abbrev Certified : List Terminal → List Written → List Terminal → Type 0
 Certified ts fs rest = (us : List Terminal) × (ts ≡ terminal.Mark mark.Open ∷ us) × SpellsBounds us fs (terminal.Mark mark.Close ∷ rest)
 
-certified_sound : (ts rest : List Terminal) (fs : List FormulaTree) → certified_read ts ≡ Some (fs, rest) → Certified ts fs rest
+certified_sound : (ts rest : List Terminal) (fs : List Written) → certified_read ts ≡ Some (fs, rest) → Certified ts fs rest
 certified_sound ts rest fs e =
     let start = some_of (after_mark mark.Open ts) _ (fs, rest) e in
     let bounds = some_of (braced_read bound_read start.0) _ (fs, rest) start.2 in
@@ -396,10 +406,10 @@ certified_sound ts rest fs e =
     (start.0, sound_Open ts start.0 start.1, subst (λ gs. SpellsBounds start.0 gs (terminal.Mark mark.Close ∷ rest)) same.0 spelled)
 
 -- constraints and multipliers in brackets
-abbrev Checked : List Terminal → List FormulaTree → List Literal → List Terminal → Type 0
+abbrev Checked : List Terminal → List Written → List Literal → List Terminal → Type 0
 Checked ts fs ns rest = (us : List Terminal) × (vs : List Terminal) × (ts ≡ terminal.Mark mark.Open ∷ us) × SpellsBounds us fs (terminal.Mark mark.Comma ∷ vs) × SpellsWholes vs ns (terminal.Mark mark.Close ∷ rest)
 
-checked_sound : (ts rest : List Terminal) (fs : List FormulaTree) (ns : List Literal) → AreProperTerminals ts → checked_read ts ≡ Some ((fs, ns), rest) → Checked ts fs ns rest
+checked_sound : (ts rest : List Terminal) (fs : List Written) (ns : List Literal) → AreProperTerminals ts → checked_read ts ≡ Some ((fs, ns), rest) → Checked ts fs ns rest
 checked_sound ts rest fs ns good e =
     let start = some_of (after_mark mark.Open ts) _ ((fs, ns), rest) e in
     let opened = sound_Open ts start.0 start.1 in
@@ -421,10 +431,10 @@ checked_sound ts rest fs ns good e =
     )
 
 -- weak constraints and a target in brackets
-abbrev Targeted : List Terminal → List FormulaTree → TermTree → List Terminal → Type 0
+abbrev Targeted : List Terminal → List Written → TermTree → List Terminal → Type 0
 Targeted ts fs target rest = (us : List Terminal) × (vs : List Terminal) × (ts ≡ terminal.Mark mark.Open ∷ us) × SpellsWeaks us fs (terminal.Mark mark.Comma ∷ vs) × SpellsSum vs target (terminal.Mark mark.Close ∷ rest)
 
-least_sound : (ts rest : List Terminal) (fs : List FormulaTree) (target : TermTree) → least_read ts ≡ Some ((fs, target), rest) → Targeted ts fs target rest
+least_sound : (ts rest : List Terminal) (fs : List Written) (target : TermTree) → least_read ts ≡ Some ((fs, target), rest) → Targeted ts fs target rest
 least_sound ts rest fs target e =
     let start = some_of (after_mark mark.Open ts) _ ((fs, target), rest) e in
     let weaks = some_of (braced_read weak_read start.0) _ ((fs, target), rest) start.2 in
@@ -442,37 +452,11 @@ least_sound ts rest fs target e =
       subst (λ t. SpellsSum comma.0 t (terminal.Mark mark.Close ∷ rest)) parts.1 (subst (λ v. SpellsSum comma.0 sum.0.0 v) ended (sum_sound comma.0 sum.0.1 sum.0.0 sum.1)),
     )
 
--- a command of one formula
-form_sound : (goal : ℕ) (make : FormulaTree → CommandTree) (ts rest : List Terminal) (c : CommandTree)
-    → on_some {Y = Option (CommandTree × List Terminal)} (formula_read goal ts) (λ p. Some (make p.0, p.1)) None ≡ Some (c, rest) → (f : FormulaTree) × FormulaAt goal ts f rest × (make f ≡ c)
-form_sound goal make ts rest c e =
-    let form = some_of (formula_read goal ts) _ (c, rest) e in
+result_sound : (ts rest : List Terminal) (c : WithInner CommandTree) → result_read ts ≡ Some (c, rest) → SpellsResult ts c rest
+result_sound ts rest c e =
+    let form = some_of (formula_read 8 ts) _ (c, rest) e in
     let same = pair_of form.2 in
-    let spelled : FormulaAt goal ts form.0.0 form.0.1 = formula_sound goal ts form.0.1 form.0.0 form.1 in
-    (form.0.0, subst (λ v. FormulaAt goal ts form.0.0 v) same.1 spelled, same.0)
-
-echo_sound : (ts rest : List Terminal) (c : CommandTree) → on_some {Y = Option (CommandTree × List Terminal)} (formula_read 8 ts) (λ p. Some (Echo p.0, p.1)) None ≡ Some (c, rest) → SpellsResult ts c rest
-echo_sound ts rest c e = let form = form_sound 8 Echo ts rest c e in subst (λ d. SpellsResult ts d rest) form.2 (echo form.1)
-
-result_from_sound : (w : Word) (ts rest : List Terminal) (c : CommandTree) → result_from w ts ≡ Some (c, rest) → SpellsResult (terminal.Word w ∷ ts) c rest
-result_from_sound word.Nnf ts rest c e = let form = form_sound 0 Nnf ts rest c e in subst (λ d. SpellsResult (terminal.Word word.Nnf ∷ ts) d rest) form.2 (nnf form.1)
-result_from_sound word.Pnf ts rest c e = let form = form_sound 0 Pnf ts rest c e in subst (λ d. SpellsResult (terminal.Word word.Pnf ∷ ts) d rest) form.2 (pnf form.1)
-result_from_sound word.Dnf ts rest c e = let form = form_sound 0 Dnf ts rest c e in subst (λ d. SpellsResult (terminal.Word word.Dnf ∷ ts) d rest) form.2 (dnf form.1)
-result_from_sound word.Cnf ts rest c e = let form = form_sound 0 Cnf ts rest c e in subst (λ d. SpellsResult (terminal.Word word.Cnf ∷ ts) d rest) form.2 (cnf form.1)
-result_from_sound word.Simpl ts rest c e =
-    let found = some_of (argument_read ts) _ (c, rest) e in
-    let same = pair_of found.2 in
-    subst (λ d. SpellsResult (terminal.Word word.Simpl ∷ ts) d rest) same.0 (simpl (argument_sound ts rest found.0.0.0 found.0.0.1 (found.1 ∙ ap (λ v. Some (found.0.0, v)) same.1)))
-result_from_sound word.Qe ts rest c e =
-    let found = some_of (argument_read ts) _ (c, rest) e in
-    let same = pair_of found.2 in
-    subst (λ d. SpellsResult (terminal.Word word.Qe ∷ ts) d rest) same.0 (qe (argument_sound ts rest found.0.0.0 found.0.0.1 (found.1 ∙ ap (λ v. Some (found.0.0, v)) same.1)))
-result_from_sound w ts rest c e = echo_sound (terminal.Word w ∷ ts) rest c e
-
-result_sound : (ts rest : List Terminal) (c : CommandTree) → result_read ts ≡ Some (c, rest) → SpellsResult ts c rest
-result_sound [] rest c e = echo_sound [] rest c e
-result_sound (terminal.Word w ∷ ts) rest c e = result_from_sound w ts rest c e
-result_sound (t ∷ ts) rest c e = echo_sound (t ∷ ts) rest c e
+    resulting (subst (λ v. SpellsFormula ts form.0.0 v) same.1 (formula_sound 8 ts form.0.1 form.0.0 form.1)) (sym same.0)
 
 any_sound : (t : Terminal) → is_any t ≡ true → IsAny t
 any_sound (terminal.Name x) e = any_name
@@ -490,25 +474,25 @@ anys_sound (t ∷ []) us e = let h = any_if t (Some []) us e in subst (λ v. Spe
 anys_sound (t ∷ terminal.Mark mark.Comma ∷ ts) us e = let h = any_if t (anys_read ts) us e in more_anys (any_sound t h.0) (anys_sound ts us h.1)
 anys_sound (t ∷ u ∷ ts) us e = let h = any_if t (Some (u ∷ ts)) us e in subst (λ v. SpellsAnys (t ∷ u ∷ ts) v) (same_some h.1) (last_any (any_sound t h.0))
 
-said_sound : (ts rest : List Terminal) (o : Option (CommandTree × List Terminal)) (a : ActionTree) → ((r : List Terminal) (c : CommandTree) → o ≡ Some (c, r) → SpellsResult ts c r) → said o ≡ Some (a, rest) → SpellsAction ts a rest
+said_sound : (ts rest : List Terminal) (o : Option (WithInner CommandTree × List Terminal)) (a : WithInner ActionTree) → ((r : List Terminal) (c : WithInner CommandTree) → o ≡ Some (c, r) → SpellsResult ts c r) → said o ≡ Some (a, rest) → SpellsAction ts a rest
 said_sound ts rest o a sound e =
     let found = some_of o _ (a, rest) e in
     let same = pair_of found.2 in
     subst (λ d. SpellsAction ts d rest) same.0 (result (sound rest found.0.0 (found.1 ∙ ap (λ v. Some (found.0.0, v)) same.1)))
 
-ignored_sound : (ts rest : List Terminal) (a : ActionTree) → ignored_read ts ≡ Some (a, rest) → SpellsAnys ts rest × (Ignored ≡ a)
+ignored_sound : (ts rest : List Terminal) (a : WithInner ActionTree) → ignored_read ts ≡ Some (a, rest) → SpellsAnys ts rest × (bare Ignored ≡ a)
 ignored_sound ts rest a e =
     let found = some_of (anys_read ts) _ (a, rest) e in
     let same = pair_of found.2 in
     (subst (SpellsAnys ts) same.1 (anys_sound ts found.0 found.1), same.0)
 
-action_from_sound : (w : Word) (ts rest : List Terminal) (a : ActionTree) → AreProperTerminals ts → action_from w ts ≡ Some (a, rest) → SpellsAction (terminal.Word w ∷ ts) a rest
+action_from_sound : (w : Word) (ts rest : List Terminal) (a : WithInner ActionTree) → AreProperTerminals ts → action_from w ts ≡ Some (a, rest) → SpellsAction (terminal.Word w ∷ ts) a rest
 action_from_sound word.Set ts rest a good e =
     let name = some_of (name_read ts) _ (a, rest) e in
     let setting = some_of (setting_of name.0.0) _ (a, rest) name.2 in
     let same = pair_of setting.2 in
     subst (λ v. SpellsAction (terminal.Word word.Set ∷ v) a rest) (sym (name_sound ts name.0.1 name.0.0 name.1))
-    (subst (λ d. SpellsAction (terminal.Word word.Set ∷ terminal.Name name.0.0 ∷ name.0.1) d rest) same.0 (subst (λ v. SpellsAction (terminal.Word word.Set ∷ terminal.Name name.0.0 ∷ name.0.1) (Choose setting.0) v) same.1 (choose setting.1)))
+    (subst (λ d. SpellsAction (terminal.Word word.Set ∷ terminal.Name name.0.0 ∷ name.0.1) d rest) same.0 (subst (λ v. SpellsAction (terminal.Word word.Set ∷ terminal.Name name.0.0 ∷ name.0.1) (bare (Choose setting.0)) v) same.1 (choose setting.1)))
 action_from_sound word.Load ts rest a good e = let h = ignored_sound ts rest a e in subst (λ d. SpellsAction (terminal.Word word.Load ∷ ts) d rest) h.1 (load h.0)
 action_from_sound word.On ts rest a good e = let h = ignored_sound ts rest a e in subst (λ d. SpellsAction (terminal.Word word.On ∷ ts) d rest) h.1 (on h.0)
 action_from_sound word.Off ts rest a good e = let h = ignored_sound ts rest a e in subst (λ d. SpellsAction (terminal.Word word.Off ∷ ts) d rest) h.1 (off h.0)
@@ -516,10 +500,10 @@ action_from_sound word.Assume ts rest a good e =
     let found = some_of (braced_read atom_read ts) _ (a, rest) e in
     let same = pair_of found.2 in
     subst (λ d. SpellsAction (terminal.Word word.Assume ∷ ts) d rest) same.0 (assume (atoms_sound ts rest found.0.0 (found.1 ∙ ap (λ v. Some (found.0.0, v)) same.1)))
-action_from_sound word.Retract ts rest a good e = let same = pair_of e in subst (λ d. SpellsAction (terminal.Word word.Retract ∷ ts) d rest) same.0 (subst (λ v. SpellsAction (terminal.Word word.Retract ∷ v) Retract rest) (sym same.1) retract)
-action_from_sound word.End ts rest a good e = let same = pair_of e in subst (λ d. SpellsAction (terminal.Word word.End ∷ ts) d rest) same.0 (subst (λ v. SpellsAction (terminal.Word word.End ∷ v) Finish rest) (sym same.1) end)
-action_from_sound word.Bye ts rest a good e = let same = pair_of e in subst (λ d. SpellsAction (terminal.Word word.Bye ∷ ts) d rest) same.0 (subst (λ v. SpellsAction (terminal.Word word.Bye ∷ v) Finish rest) (sym same.1) bye)
-action_from_sound word.Quit ts rest a good e = let same = pair_of e in subst (λ d. SpellsAction (terminal.Word word.Quit ∷ ts) d rest) same.0 (subst (λ v. SpellsAction (terminal.Word word.Quit ∷ v) Finish rest) (sym same.1) quit)
+action_from_sound word.Retract ts rest a good e = let same = pair_of e in subst (λ d. SpellsAction (terminal.Word word.Retract ∷ ts) d rest) same.0 (subst (λ v. SpellsAction (terminal.Word word.Retract ∷ v) (bare Retract) rest) (sym same.1) retract)
+action_from_sound word.End ts rest a good e = let same = pair_of e in subst (λ d. SpellsAction (terminal.Word word.End ∷ ts) d rest) same.0 (subst (λ v. SpellsAction (terminal.Word word.End ∷ v) (bare Finish) rest) (sym same.1) end)
+action_from_sound word.Bye ts rest a good e = let same = pair_of e in subst (λ d. SpellsAction (terminal.Word word.Bye ∷ ts) d rest) same.0 (subst (λ v. SpellsAction (terminal.Word word.Bye ∷ v) (bare Finish) rest) (sym same.1) bye)
+action_from_sound word.Quit ts rest a good e = let same = pair_of e in subst (λ d. SpellsAction (terminal.Word word.Quit ∷ ts) d rest) same.0 (subst (λ v. SpellsAction (terminal.Word word.Quit ∷ v) (bare Finish) rest) (sym same.1) quit)
 action_from_sound word.Qea ts rest a good e =
     let found = some_of (argument_read ts) _ (a, rest) e in
     let same = pair_of found.2 in
@@ -528,35 +512,35 @@ action_from_sound word.Holds ts rest a good e =
     let found = some_of (pointed_read ts) _ (a, rest) e in
     let same = pair_of found.2 in
     let p = pointed_sound ts rest found.0.0.0 found.0.0.1 good (found.1 ∙ ap (λ v. Some (found.0.0, v)) same.1) in
-    subst (λ d. SpellsAction (terminal.Word word.Holds ∷ ts) d rest) same.0 (subst (λ v. SpellsAction (terminal.Word word.Holds ∷ v) (Say (Holds found.0.0.0 found.0.0.1)) rest) (sym p.2) (query (holds p.3 p.4)))
+    subst (λ d. SpellsAction (terminal.Word word.Holds ∷ ts) d rest) same.0 (subst (λ v. SpellsAction (terminal.Word word.Holds ∷ v) (around Say (about (λ t. Holds t found.0.0.1) found.0.0.0)) rest) (sym p.2) (query (holds p.3 p.4)))
 action_from_sound word.Witness ts rest a good e =
     let found = some_of (pointed_read ts) _ (a, rest) e in
     let same = pair_of found.2 in
     let p = pointed_sound ts rest found.0.0.0 found.0.0.1 good (found.1 ∙ ap (λ v. Some (found.0.0, v)) same.1) in
-    subst (λ d. SpellsAction (terminal.Word word.Witness ∷ ts) d rest) same.0 (subst (λ v. SpellsAction (terminal.Word word.Witness ∷ v) (Say (Sample found.0.0.0 found.0.0.1)) rest) (sym p.2) (query (witness p.3 p.4)))
+    subst (λ d. SpellsAction (terminal.Word word.Witness ∷ ts) d rest) same.0 (subst (λ v. SpellsAction (terminal.Word word.Witness ∷ v) (around Say (about (λ t. Sample t found.0.0.1) found.0.0.0)) rest) (sym p.2) (query (witness p.3 p.4)))
 action_from_sound word.Grid ts rest a good e =
     let found = some_of (grid_read ts) _ (a, rest) e in
     let same = pair_of found.2 in
     let p = grid_sound ts rest found.0.0.0 found.0.0.1 good (found.1 ∙ ap (λ v. Some (found.0.0, v)) same.1) in
-    subst (λ d. SpellsAction (terminal.Word word.Grid ∷ ts) d rest) same.0 (subst (λ v. SpellsAction (terminal.Word word.Grid ∷ v) (Say (Grid found.0.0.0 found.0.0.1)) rest) (sym p.2) (query (grid p.3 p.4)))
+    subst (λ d. SpellsAction (terminal.Word word.Grid ∷ ts) d rest) same.0 (subst (λ v. SpellsAction (terminal.Word word.Grid ∷ v) (around Say (about (λ t. Grid t found.0.0.1) found.0.0.0)) rest) (sym p.2) (query (grid p.3 p.4)))
 action_from_sound word.Cert ts rest a good e =
     let found = some_of (certified_read ts) _ (a, rest) e in
     let same = pair_of found.2 in
     let p = certified_sound ts rest found.0.0 (found.1 ∙ ap (λ v. Some (found.0.0, v)) same.1) in
-    subst (λ d. SpellsAction (terminal.Word word.Cert ∷ ts) d rest) same.0 (subst (λ v. SpellsAction (terminal.Word word.Cert ∷ v) (Say (Certify (formulas_of found.0.0))) rest) (sym p.1) (query (certify p.2)))
+    subst (λ d. SpellsAction (terminal.Word word.Cert ∷ ts) d rest) same.0 (subst (λ v. SpellsAction (terminal.Word word.Cert ∷ v) (around Say (about_all Certify (all_of found.0.0))) rest) (sym p.1) (query (certify p.2)))
 action_from_sound word.Check ts rest a good e =
     let found = some_of (checked_read ts) _ (a, rest) e in
     let same = pair_of found.2 in
     let p = checked_sound ts rest found.0.0.0 found.0.0.1 good (found.1 ∙ ap (λ v. Some (found.0.0, v)) same.1) in
-    subst (λ d. SpellsAction (terminal.Word word.Check ∷ ts) d rest) same.0 (subst (λ v. SpellsAction (terminal.Word word.Check ∷ v) (Say (Check (formulas_of found.0.0.0) found.0.0.1)) rest) (sym p.2) (query (check p.3 p.4)))
+    subst (λ d. SpellsAction (terminal.Word word.Check ∷ ts) d rest) same.0 (subst (λ v. SpellsAction (terminal.Word word.Check ∷ v) (around Say (about_all (λ fs. Check fs found.0.0.1) (all_of found.0.0.0))) rest) (sym p.2) (query (check p.3 p.4)))
 action_from_sound word.Opt ts rest a good e =
     let found = some_of (least_read ts) _ (a, rest) e in
     let same = pair_of found.2 in
     let p = least_sound ts rest found.0.0.0 found.0.0.1 (found.1 ∙ ap (λ v. Some (found.0.0, v)) same.1) in
-    subst (λ d. SpellsAction (terminal.Word word.Opt ∷ ts) d rest) same.0 (subst (λ v. SpellsAction (terminal.Word word.Opt ∷ v) (Say (Least (formulas_of found.0.0.0) found.0.0.1)) rest) (sym p.2) (query (least p.3 p.4)))
-action_from_sound w ts rest a good e = said_sound (terminal.Word w ∷ ts) rest (result_from w ts) a (λ r c h. result_from_sound w ts r c h) e
+    subst (λ d. SpellsAction (terminal.Word word.Opt ∷ ts) d rest) same.0 (subst (λ v. SpellsAction (terminal.Word word.Opt ∷ v) (around Say (about_all (λ fs. Least fs found.0.0.1) (all_of found.0.0.0))) rest) (sym p.2) (query (least p.3 p.4)))
+action_from_sound w ts rest a good e = said_sound (terminal.Word w ∷ ts) rest (result_read (terminal.Word w ∷ ts)) a (λ r c h. result_sound (terminal.Word w ∷ ts) r c h) e
 
-action_sound : (ts rest : List Terminal) (a : ActionTree) → AreProperTerminals ts → action_read ts ≡ Some (a, rest) → SpellsAction ts a rest
+action_sound : (ts rest : List Terminal) (a : WithInner ActionTree) → AreProperTerminals ts → action_read ts ≡ Some (a, rest) → SpellsAction ts a rest
 action_sound [] rest a good e = absurd (let no : ⊥ = cc in no)
 action_sound (terminal.Word w ∷ ts) rest a good e = action_from_sound w ts rest a good e
 action_sound (terminal.Name x ∷ ts) rest a good e = either {P = SpellsAction (terminal.Name x ∷ ts) a rest} (after_mark mark.Assign ts) _ _ (a, rest) e

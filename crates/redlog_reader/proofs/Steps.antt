@@ -3,12 +3,13 @@ use Rattle.std.proofs.Common.{◌≡◌, ℕ, ◌<◌, ◌≤◌, List, [], ◌�
 use Rattle.std.specs.Prelude.{Option, Some, None, if◌then◌else◌}
 use Rattle.std.proofs.lemmas.Bool.{lt-ltb, le-ltb, le-leb}
 use Rattle.formula_meaning.specs.declared.junction.Junction.TheVariants.{Conjunction, Disjunction}
-use Rattle.qe_syntax.specs.Trees.{TermTree, FormulaTree}
+use Rattle.qe_syntax.specs.Trees.{TermTree}
 use Rattle.redlog_tokens.specs.declared.terminal.Terminal.{Terminal}
 use Rattle.redlog_tokens.specs.declared.terminal.Terminal.TheVariants as terminal
 use Rattle.redlog_tokens.specs.declared.terminal.Mark.TheVariants as mark
 use Rattle.redlog_reader.specs.declared.pending.Arrow.TheVariants as arrow
-use Rattle.redlog_reader.specs.Machine.{Reading, term_of, formula_of, Frame, Group, Quantified, Congruence, Negation, Compares, Added, Multiplied, Listed, Arrows}
+use Rattle.redlog_reader.specs.Grammar.{Written}
+use Rattle.redlog_reader.specs.Machine.{Reading, term_of, formula_of, Frame, Group, Quantified, Congruence, Negation, Compares, Added, Multiplied, Listed, Arrows, Commanded, Assumes, Relates}
 use Rattle.redlog_reader.specs.Machine.{Mode, Wants, Fresh, Held, Outcome, Fails, Stops, Moves, strength, level, takes_last, takes, on_term, on_formula, ended, folded, continued, pushed, operated, joined, held, step, run}
 
 -- how loosely what comes next binds
@@ -23,7 +24,7 @@ pub record ReadsTerm (goal : ℕ) (ts : List Terminal) (fs : List Frame) (mode :
   pub runs : run goal ts fs mode ≡ run goal rest gs (after reading)
 
 -- the same of a formula
-pub record ReadsFormula (goal : ℕ) (ts : List Terminal) (fs : List Frame) (mode : Mode) (after : Reading → Mode) (rest : List Terminal) (gs : List Frame) (f : FormulaTree) : Type 0 where
+pub record ReadsFormula (goal : ℕ) (ts : List Terminal) (fs : List Frame) (mode : Mode) (after : Reading → Mode) (rest : List Terminal) (gs : List Frame) (f : Written) : Type 0 where
   pub reading : Reading
   pub is : formula_of reading ≡ Some f
   pub runs : run goal ts fs mode ≡ run goal rest gs (after reading)
@@ -41,7 +42,7 @@ moves goal t ts fs mode e = ap (outcome goal t ts) e
 pub is_term : {X : Type 0} (h : Reading) {t : TermTree} (f : TermTree → X) (other : X) → term_of h ≡ Some t → on_term (term_of h) f other ≡ f t
 is_term h f other e = ap (λ o. on_term o f other) e
 
-pub is_formula : {X : Type 0} (h : Reading) {t : FormulaTree} (f : FormulaTree → X) (other : X) → formula_of h ≡ Some t → on_formula (formula_of h) f other ≡ f t
+pub is_formula : {X : Type 0} (h : Reading) {t : Written} (f : Written → X) (other : X) → formula_of h ≡ Some t → on_formula (formula_of h) f other ≡ f t
 is_formula h f other e = ap (λ o. on_formula o f other) e
 
 pub takes_level : (frame : Frame) → takes_last frame ≤ level frame
@@ -57,6 +58,9 @@ takes_level (Listed Disjunction fs) = omega arith
 takes_level (Arrows arrow.Impl f) = omega arith
 takes_level (Arrows arrow.Repl f) = omega arith
 takes_level (Arrows arrow.Equiv f) = omega arith
+takes_level (Commanded i) = omega arith
+takes_level (Assumes c) = omega arith
+takes_level (Relates c r t) = omega arith
 
 -- what binds looser than the inmost frame ends no frame
 pub unfolded : (goal s : ℕ) (fs : List Frame) (h : Reading) → s ≤ takes goal fs → folded s fs h ≡ Some (fs, h)
@@ -100,7 +104,7 @@ level_kept s frame fs h le = ap (λ b. if b then (elim (ended frame h) [ None �
 pub no_term : {X : Type 0} (h : Reading) (f : TermTree → X) (other : X) → term_of h ≡ None → on_term (term_of h) f other ≡ other
 no_term h f other e = ap (λ o. on_term o f other) e
 
-pub no_formula : {X : Type 0} (h : Reading) (f : FormulaTree → X) (other : X) → formula_of h ≡ None → on_formula (formula_of h) f other ≡ other
+pub no_formula : {X : Type 0} (h : Reading) (f : Written → X) (other : X) → formula_of h ≡ None → on_formula (formula_of h) f other ≡ other
 no_formula h f other e = ap (λ o. on_formula o f other) e
 
 -- the term or the formula that was read, or that there is none

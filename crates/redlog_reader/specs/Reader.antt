@@ -10,8 +10,11 @@ use Rattle.qe_syntax.specs.declared.entries.PointEntry.{PointEntry}
 use Rattle.statement_syntax.specs.declared.grid.Ratio.{Ratio}
 use Rattle.statement_syntax.specs.declared.grid.GridAxis.{GridAxis}
 use Rattle.statement_syntax.specs.Constraints.{is_constraint, is_weak_constraint}
-use Rattle.qe_syntax.specs.Trees.{TermTree, Compare, FormulaTree, formulas_of}
-use Rattle.statement_syntax.specs.Statements.{CommandTree, Echo, Nnf, Pnf, Dnf, Cnf, Simpl, Qe, Qea, Holds, Sample, Grid, Certify, Check, Least, ActionTree, Empty, Ignored, Finish, Choose, Say, Assign, Assume, Retract, StatementTree}
+use Rattle.qe_syntax.specs.Trees.{TermTree, Compare}
+use Rattle.qe_syntax.specs.Holes.{whole, all_of}
+use Rattle.qe_syntax.specs.Holes as inside
+use Rattle.statement_syntax.specs.Statements.{CommandTree, Qea, Holds, Sample, Grid, Certify, Check, Least, ActionTree, Empty, Ignored, Finish, Choose, Say, Assign, Assume, Retract, StatementTree}
+use Rattle.statement_syntax.specs.Inner.{WithInner, bare, around, about, about_all, about_under}
 use Rattle.redlog_tokens.specs.declared.terminal.Terminal.{Terminal}
 use Rattle.redlog_tokens.specs.declared.terminal.Terminal.TheVariants as terminal
 use Rattle.redlog_tokens.specs.declared.terminal.Mark.{Mark}
@@ -20,7 +23,7 @@ use Rattle.redlog_tokens.specs.declared.terminal.Word.{Word}
 use Rattle.redlog_tokens.specs.declared.terminal.Word.TheVariants as word
 use Rattle.redlog_reader.specs.declared.argument.AtomKind.{AtomKind}
 use Rattle.redlog_reader.specs.declared.argument.AtomKind.TheVariants as kind
-use Rattle.redlog_reader.specs.Grammar.{setting_of}
+use Rattle.redlog_reader.specs.Grammar.{Written, setting_of, result_of}
 use Rattle.redlog_reader.specs.Machine.{term_of, formula_of, Wants, run}
 
 -- what follows from a value, or from none
@@ -50,7 +53,7 @@ after_mark m (terminal.Mark n ∷ ts) = if number_of m == number_of n then Some 
 after_mark m _ = None
 
 -- a term or a formula that binds at most as loosely as the goal
-abbrev pub formula_read : ℕ → List Terminal → Option (FormulaTree × List Terminal)
+abbrev pub formula_read : ℕ → List Terminal → Option (Written × List Terminal)
 formula_read goal ts = on_some (run goal ts [] Wants) (λ p. on_some (formula_of p.0) (λ f. Some (f, p.1)) None) None
 
 abbrev pub sum_read : List Terminal → Option (TermTree × List Terminal)
@@ -65,28 +68,28 @@ abbrev pub relation_read : List Terminal → Option (Relation × List Terminal)
 relation_read [] = None
 relation_read (t ∷ ts) = on_some (relation_of t) (λ r. Some (r, ts)) None
 
-abbrev pub comparison_read : List Terminal → Option (FormulaTree × List Terminal)
+abbrev pub comparison_read : List Terminal → Option (Written × List Terminal)
 comparison_read ts =
-    on_some (sum_read ts) (λ p. on_some (relation_read p.1) (λ q. on_some (sum_read q.1) (λ r. Some (One (Compare q.0 p.0 r.0), r.1)) None) None) None
+    on_some (sum_read ts) (λ p. on_some (relation_read p.1) (λ q. on_some (sum_read q.1) (λ r. Some (whole (One (Compare q.0 p.0 r.0)), r.1)) None) None) None
 
 abbrev pub begins_congruence : List Terminal → Bool
 begins_congruence (terminal.Word word.Cong ∷ ts) = true
 begins_congruence (terminal.Word word.Ncong ∷ ts) = true
 begins_congruence _ = false
 
-abbrev pub atom_read : List Terminal → Option (FormulaTree × List Terminal)
+abbrev pub atom_read : List Terminal → Option (Written × List Terminal)
 atom_read ts = if begins_congruence ts then formula_read 0 ts else comparison_read ts
 
 -- a comparison that a constraint may be
-abbrev pub bound_read : List Terminal → Option (FormulaTree × List Terminal)
-bound_read ts = on_some (comparison_read ts) (λ p. if is_constraint p.0 then Some p else None) None
+abbrev pub bound_read : List Terminal → Option (Written × List Terminal)
+bound_read ts = on_some (comparison_read ts) (λ p. if is_constraint p.0.tree then Some p else None) None
 
 -- one by =, <= or >=
-abbrev pub weak_read : List Terminal → Option (FormulaTree × List Terminal)
-weak_read ts = on_some (comparison_read ts) (λ p. if is_weak_constraint p.0 then Some p else None) None
+abbrev pub weak_read : List Terminal → Option (Written × List Terminal)
+weak_read ts = on_some (comparison_read ts) (λ p. if is_weak_constraint p.0.tree then Some p else None) None
 
 -- an atom of this kind
-abbrev pub kind_read : AtomKind → List Terminal → Option (FormulaTree × List Terminal)
+abbrev pub kind_read : AtomKind → List Terminal → Option (Written × List Terminal)
 kind_read kind.Any = atom_read
 kind_read kind.Constraint = bound_read
 kind_read kind.Weak = weak_read
@@ -149,7 +152,7 @@ axis_read ts =
     Some (record { name = x.0; low = low.0; high = high.0; step = step.0 }, step.1)) None) None) None) None) None) None
 
 -- a prime formula, or a formula and assumptions in brackets
-abbrev pub argument_read : List Terminal → Option ((FormulaTree × List FormulaTree) × List Terminal)
+abbrev pub argument_read : List Terminal → Option ((Written × List Written) × List Terminal)
 argument_read ts =
     on_some (after_mark mark.Open ts) (λ us. on_some (formula_read 8 us) (λ p.
     on_some (after_mark mark.Close p.1) (λ vs. Some ((p.0, []), vs))
@@ -157,47 +160,36 @@ argument_read ts =
     (on_some (formula_read 0 ts) (λ p. Some ((p.0, []), p.1)) None)
 
 -- a formula and a point in brackets
-abbrev pub pointed_read : List Terminal → Option ((FormulaTree × List PointEntry) × List Terminal)
+abbrev pub pointed_read : List Terminal → Option ((Written × List PointEntry) × List Terminal)
 pointed_read ts =
     on_some (after_mark mark.Open ts) (λ us. on_some (formula_read 8 us) (λ p. on_some (after_mark mark.Comma p.1) (λ vs.
     on_some (braced_read entry_read vs) (λ q. on_some (after_mark mark.Close q.1) (λ ws. Some ((p.0, q.0), ws)) None) None) None) None) None
 
 -- a formula and axes in brackets
-abbrev pub grid_read : List Terminal → Option ((FormulaTree × List GridAxis) × List Terminal)
+abbrev pub grid_read : List Terminal → Option ((Written × List GridAxis) × List Terminal)
 grid_read ts =
     on_some (after_mark mark.Open ts) (λ us. on_some (formula_read 8 us) (λ p. on_some (after_mark mark.Comma p.1) (λ vs.
     on_some (items_read axis_read vs) (λ q. on_some (after_mark mark.Close q.1) (λ ws. Some ((p.0, q.0), ws)) None) None) None) None) None
 
 -- constraints in brackets
-abbrev pub certified_read : List Terminal → Option (List FormulaTree × List Terminal)
+abbrev pub certified_read : List Terminal → Option (List Written × List Terminal)
 certified_read ts =
     on_some (after_mark mark.Open ts) (λ us. on_some (braced_read bound_read us) (λ p. on_some (after_mark mark.Close p.1) (λ vs. Some (p.0, vs)) None) None) None
 
 -- constraints and multipliers in brackets
-abbrev pub checked_read : List Terminal → Option ((List FormulaTree × List Literal) × List Terminal)
+abbrev pub checked_read : List Terminal → Option ((List Written × List Literal) × List Terminal)
 checked_read ts =
     on_some (after_mark mark.Open ts) (λ us. on_some (braced_read bound_read us) (λ p. on_some (after_mark mark.Comma p.1) (λ vs.
     on_some (braced_read above_read vs) (λ q. on_some (after_mark mark.Close q.1) (λ ws. Some ((p.0, q.0), ws)) None) None) None) None) None
 
 -- constraints and a sum in brackets
-abbrev pub least_read : List Terminal → Option ((List FormulaTree × TermTree) × List Terminal)
+abbrev pub least_read : List Terminal → Option ((List Written × TermTree) × List Terminal)
 least_read ts =
     on_some (after_mark mark.Open ts) (λ us. on_some (braced_read weak_read us) (λ p. on_some (after_mark mark.Comma p.1) (λ vs.
     on_some (sum_read vs) (λ q. on_some (after_mark mark.Close q.1) (λ ws. Some ((p.0, q.0), ws)) None) None) None) None) None
 
--- a result that begins with this word
-abbrev pub result_from : Word → List Terminal → Option (CommandTree × List Terminal)
-result_from word.Nnf ts = on_some (formula_read 0 ts) (λ p. Some (Nnf p.0, p.1)) None
-result_from word.Pnf ts = on_some (formula_read 0 ts) (λ p. Some (Pnf p.0, p.1)) None
-result_from word.Dnf ts = on_some (formula_read 0 ts) (λ p. Some (Dnf p.0, p.1)) None
-result_from word.Cnf ts = on_some (formula_read 0 ts) (λ p. Some (Cnf p.0, p.1)) None
-result_from word.Simpl ts = on_some (argument_read ts) (λ p. Some (Simpl p.0.0 (formulas_of p.0.1), p.1)) None
-result_from word.Qe ts = on_some (argument_read ts) (λ p. Some (Qe p.0.0 (formulas_of p.0.1), p.1)) None
-result_from w ts = on_some (formula_read 8 (terminal.Word w ∷ ts)) (λ p. Some (Echo p.0, p.1)) None
-
-abbrev pub result_read : List Terminal → Option (CommandTree × List Terminal)
-result_read (terminal.Word w ∷ ts) = result_from w ts
-result_read ts = on_some (formula_read 8 ts) (λ p. Some (Echo p.0, p.1)) None
+abbrev pub result_read : List Terminal → Option (WithInner CommandTree × List Terminal)
+result_read ts = on_some (formula_read 8 ts) (λ p. Some (result_of p.0, p.1)) None
 
 -- a name or a word
 abbrev pub is_any : Terminal → Bool
@@ -211,43 +203,43 @@ anys_read (t ∷ []) = if is_any t then Some [] else None
 anys_read (t ∷ terminal.Mark mark.Comma ∷ ts) = if is_any t then anys_read ts else None
 anys_read (t ∷ u ∷ ts) = if is_any t then Some (u ∷ ts) else None
 
-abbrev pub context_read : List Terminal → Option (ActionTree × List Terminal)
-context_read ts = on_some (name_read ts) (λ p. on_some (setting_of p.0) (λ s. Some (Choose s, p.1)) None) None
+abbrev pub context_read : List Terminal → Option (WithInner ActionTree × List Terminal)
+context_read ts = on_some (name_read ts) (λ p. on_some (setting_of p.0) (λ s. Some (bare (Choose s), p.1)) None) None
 
-abbrev pub ignored_read : List Terminal → Option (ActionTree × List Terminal)
-ignored_read ts = on_some (anys_read ts) (λ us. Some (Ignored, us)) None
+abbrev pub ignored_read : List Terminal → Option (WithInner ActionTree × List Terminal)
+ignored_read ts = on_some (anys_read ts) (λ us. Some (bare Ignored, us)) None
 
-abbrev pub assumed_read : List Terminal → Option (ActionTree × List Terminal)
-assumed_read ts = on_some (braced_read atom_read ts) (λ p. Some (Assume (formulas_of p.0), p.1)) None
+abbrev pub assumed_read : List Terminal → Option (WithInner ActionTree × List Terminal)
+assumed_read ts = on_some (braced_read atom_read ts) (λ p. Some (about_all Assume (all_of p.0), p.1)) None
 
-abbrev pub said : Option (CommandTree × List Terminal) → Option (ActionTree × List Terminal)
-said o = on_some o (λ p. Some (Say p.0, p.1)) None
+abbrev pub said : Option (WithInner CommandTree × List Terminal) → Option (WithInner ActionTree × List Terminal)
+said o = on_some o (λ p. Some (around Say p.0, p.1)) None
 
 -- an action that begins with this word
-abbrev pub action_from : Word → List Terminal → Option (ActionTree × List Terminal)
+abbrev pub action_from : Word → List Terminal → Option (WithInner ActionTree × List Terminal)
 action_from word.Set ts = context_read ts
 action_from word.Load ts = ignored_read ts
 action_from word.On ts = ignored_read ts
 action_from word.Off ts = ignored_read ts
 action_from word.Assume ts = assumed_read ts
-action_from word.Retract ts = Some (Retract, ts)
-action_from word.End ts = Some (Finish, ts)
-action_from word.Bye ts = Some (Finish, ts)
-action_from word.Quit ts = Some (Finish, ts)
-action_from word.Qea ts = on_some (argument_read ts) (λ p. Some (Say (Qea p.0.0 (formulas_of p.0.1)), p.1)) None
-action_from word.Holds ts = on_some (pointed_read ts) (λ p. Some (Say (Holds p.0.0 p.0.1), p.1)) None
-action_from word.Witness ts = on_some (pointed_read ts) (λ p. Some (Say (Sample p.0.0 p.0.1), p.1)) None
-action_from word.Grid ts = on_some (grid_read ts) (λ p. Some (Say (Grid p.0.0 p.0.1), p.1)) None
-action_from word.Cert ts = on_some (certified_read ts) (λ p. Some (Say (Certify (formulas_of p.0)), p.1)) None
-action_from word.Check ts = on_some (checked_read ts) (λ p. Some (Say (Check (formulas_of p.0.0) p.0.1), p.1)) None
-action_from word.Opt ts = on_some (least_read ts) (λ p. Some (Say (Least (formulas_of p.0.0) p.0.1), p.1)) None
-action_from w ts = said (result_from w ts)
+action_from word.Retract ts = Some (bare Retract, ts)
+action_from word.End ts = Some (bare Finish, ts)
+action_from word.Bye ts = Some (bare Finish, ts)
+action_from word.Quit ts = Some (bare Finish, ts)
+action_from word.Qea ts = on_some (argument_read ts) (λ p. Some (around Say (about_under Qea p.0.0 (all_of p.0.1)), p.1)) None
+action_from word.Holds ts = on_some (pointed_read ts) (λ p. Some (around Say (about (λ t. Holds t p.0.1) p.0.0), p.1)) None
+action_from word.Witness ts = on_some (pointed_read ts) (λ p. Some (around Say (about (λ t. Sample t p.0.1) p.0.0), p.1)) None
+action_from word.Grid ts = on_some (grid_read ts) (λ p. Some (around Say (about (λ t. Grid t p.0.1) p.0.0), p.1)) None
+action_from word.Cert ts = on_some (certified_read ts) (λ p. Some (around Say (about_all Certify (all_of p.0)), p.1)) None
+action_from word.Check ts = on_some (checked_read ts) (λ p. Some (around Say (about_all (λ fs. Check fs p.0.1) (all_of p.0.0)), p.1)) None
+action_from word.Opt ts = on_some (least_read ts) (λ p. Some (around Say (about_all (λ fs. Least fs p.0.1) (all_of p.0.0)), p.1)) None
+action_from w ts = said (result_read (terminal.Word w ∷ ts))
 
 -- an action that begins with this name
-abbrev pub named_from : List ℕ → List Terminal → Option (ActionTree × List Terminal)
-named_from x ts = on_some (after_mark mark.Assign ts) (λ us. on_some (result_read us) (λ p. Some (Assign x p.0, p.1)) None) (said (result_read (terminal.Name x ∷ ts)))
+abbrev pub named_from : List ℕ → List Terminal → Option (WithInner ActionTree × List Terminal)
+named_from x ts = on_some (after_mark mark.Assign ts) (λ us. on_some (result_read us) (λ p. Some (around (Assign x) p.0, p.1)) None) (said (result_read (terminal.Name x ∷ ts)))
 
-abbrev pub action_read : List Terminal → Option (ActionTree × List Terminal)
+abbrev pub action_read : List Terminal → Option (WithInner ActionTree × List Terminal)
 action_read [] = None
 action_read (terminal.Word w ∷ ts) = action_from w ts
 action_read (terminal.Name x ∷ ts) = named_from x ts
@@ -263,5 +255,5 @@ ending ts = on_some (after_mark mark.Semicolon ts) (alone true) (on_some (after_
 
 abbrev pub statement_read : List Terminal → Option StatementTree
 statement_read ts =
-    on_some (ending ts) (λ printed. Some (record { action = Empty; printed = printed }))
-    (on_some (action_read ts) (λ p. on_some (ending p.1) (λ printed. Some (record { action = p.0; printed = printed })) None) None)
+    on_some (ending ts) (λ printed. Some (record { action = Empty; printed = printed; inner = inside.alone }))
+    (on_some (action_read ts) (λ p. on_some (ending p.1) (λ printed. Some (record { action = p.0.tree; printed = printed; inner = p.0.inner })) None) None)

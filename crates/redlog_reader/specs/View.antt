@@ -1,7 +1,7 @@
 -- What the values of the code stand for, while terms and formulas are read.
 use Rattle.std.specs.Prelude.{List, [], ◌∷◌, map, reverse}
 use Rattle.qe_syntax.specs.Trees.{TermTree}
-use Rattle.qe_syntax.specs.CodeTrees.{term_tree, formula_tree}
+use Rattle.qe_syntax.specs.CodeTrees.{term_tree, whole_formula}
 use Rattle.qe_syntax.specs.declared.tree.Term as written
 use Rattle.qe_syntax.specs.declared.tree.Term.TheVariants as term
 use Rattle.redlog_reader.specs.declared.operand.Operand as operands
@@ -10,11 +10,12 @@ use Rattle.redlog_reader.specs.declared.pending.Pending as begins
 use Rattle.redlog_reader.specs.declared.pending.Pending.TheVariants as pending
 use Rattle.redlog_reader.specs.declared.pending.Arguments as arguments
 use Rattle.redlog_reader.specs.declared.pending.Arguments.TheVariants as argument
+use Rattle.redlog_reader.specs.declared.pending.Call as calls
 use Rattle.redlog_reader.specs.declared.pending.Expects as expected
 use Rattle.redlog_reader.specs.declared.pending.Expects.TheVariants as expects
 use Rattle.redlog_reader.specs.declared.pending.Step as steps
 use Rattle.redlog_reader.specs.declared.pending.Step.TheVariants as taken
-use Rattle.redlog_reader.specs.Machine.{Reading, Term, Formula, Bare, Frame, Group, Quantified, Congruence, Negation, Compares, Added, Multiplied, Listed, Arrows, Mode, Wants, Fresh, Held, Raised, Binder, Binding, NameWanted, NameRead, Scoped, Congruent, Outcome, Stops, Moves}
+use Rattle.redlog_reader.specs.Machine.{Reading, Term, Formula, Bare, Frame, Group, Quantified, Congruence, Negation, Compares, Added, Multiplied, Listed, Arrows, Commanded, Assumes, Relates, Call, Mode, Wants, Fresh, Held, Raised, Binder, Binding, NameWanted, NameRead, Scoped, Congruent, BraceWanted, AtomWanted, AtomEnd, GivenEnd, Outcome, Stops, Moves}
 
 -- a term that is a name alone is a formula too
 abbrev pub named_reading : written.Term → Reading
@@ -23,13 +24,16 @@ named_reading t = Term (term_tree t)
 
 abbrev pub reading_of : operands.Operand → Reading
 reading_of (operand.Term t) = Term (term_tree t.value)
-reading_of (operand.Formula f) = Formula (formula_tree f.value)
+reading_of (operand.Formula f) = Formula (whole_formula f.value)
 reading_of (operand.Name t) = named_reading t.value
 
 abbrev pub arguments_of : arguments.Arguments → List TermTree
 arguments_of argument.First = []
 arguments_of (argument.Second s) = term_tree s.value ∷ []
 arguments_of (argument.Third s t) = term_tree s.value ∷ term_tree t.value ∷ []
+
+abbrev pub call_of : calls.Call → Call
+call_of c = record { word = c.word; formula = whole_formula c.formula; atoms = map whole_formula c.atoms.items }
 
 abbrev pub frame_of : begins.Pending → Frame
 frame_of pending.Group = Group
@@ -39,8 +43,11 @@ frame_of pending.Negation = Negation
 frame_of (pending.Compares r t) = Compares r (term_tree t.value)
 frame_of (pending.Added minus terms) = Added minus (map term_tree terms.items)
 frame_of (pending.Multiplied over terms) = Multiplied over (map term_tree terms.items)
-frame_of (pending.Listed c formulas) = Listed c (map formula_tree formulas.items)
-frame_of (pending.Arrows a f) = Arrows a (formula_tree f.value)
+frame_of (pending.Listed c formulas) = Listed c (map whole_formula formulas.items)
+frame_of (pending.Arrows a f) = Arrows a (whole_formula f.value)
+frame_of (pending.Commanded word) = Commanded word
+frame_of (pending.Assumes c) = Assumes (call_of c.value)
+frame_of (pending.Relates c r t) = Relates (call_of c.value) r (term_tree t.value)
 
 -- what has begun, of which the inmost stands last in the code
 abbrev pub frames : List begins.Pending → List Frame
@@ -57,6 +64,10 @@ mode_of (expects.Name quantifier names) = NameWanted quantifier names.items
 mode_of (expects.NameEnd quantifier names) = NameRead quantifier names.items
 mode_of (expects.Scope quantifier names) = Scoped quantifier names.items
 mode_of (expects.Terms positive) = Congruent positive
+mode_of (expects.Brace c) = BraceWanted (call_of c.value)
+mode_of (expects.Atom c) = AtomWanted (call_of c.value)
+mode_of (expects.AtomEnd c) = AtomEnd (call_of c.value)
+mode_of (expects.GivenEnd c) = GivenEnd (call_of c.value)
 
 -- what a step says, with what has begun then
 abbrev pub outcome_of : steps.Step → List Frame → Outcome

@@ -1,5 +1,5 @@
 ghost use Rattle.std.specs.Prelude.{◌≡◌, map, IfOk, IfErr, Some, None};
-ghost use Rattle.qe_syntax.specs.CodeTrees.{term_tree, formula_tree};
+ghost use Rattle.qe_syntax.specs.CodeTrees.{term_tree, whole_formula};
 ghost use Rattle.statement_syntax.specs.Constraints.{is_constraint, is_weak_constraint};
 ghost use Rattle.redlog_reader.specs.Reader.{formula_read, sum_read, comparison_read, begins_congruence, atom_read, bound_read, weak_read, kind_read, items_read, braced_read, argument_read};
 ghost use Rattle.redlog_reader.specs.Reading.{Refuses};
@@ -39,7 +39,7 @@ pub fn formula(
     goal: usize,
     tokens: &[Terminal],
 ) -> Result<(Formula, &[Terminal]), ReadError>
-    ensures read { IfOk result (λ r. formula_read goal tokens.now ≡ Some (formula_tree r.0, r.1.now)) }
+    ensures read { IfOk result (λ r. formula_read goal tokens.now ≡ Some (whole_formula r.0, r.1.now)) }
     ensures refused { IfErr result (λ e. Refuses e (formula_read goal tokens.now ≡ None)) }
 {
     let (operand, rest) = read(alloc, goal, tokens)?;
@@ -65,7 +65,7 @@ pub fn sum(alloc: Global, tokens: &[Terminal]) -> Result<(Term, &[Terminal]), Re
 /// A relation between two sums.
 #[tactic(auto, using(crate::proofs::Options::options))]
 fn comparison(alloc: Global, tokens: &[Terminal]) -> Result<(Formula, &[Terminal]), ReadError>
-    ensures read { IfOk result (λ r. comparison_read tokens.now ≡ Some (formula_tree r.0, r.1.now)) }
+    ensures read { IfOk result (λ r. comparison_read tokens.now ≡ Some (whole_formula r.0, r.1.now)) }
     ensures refused { IfErr result (λ e. Refuses e (comparison_read tokens.now ≡ None)) }
 {
     let (left, middle) = sum(alloc, tokens)?;
@@ -80,7 +80,7 @@ fn comparison(alloc: Global, tokens: &[Terminal]) -> Result<(Formula, &[Terminal
 /// A comparison or a congruence.
 #[tactic(auto, using(crate::proofs::Options::options))]
 fn atom(alloc: Global, tokens: &[Terminal]) -> Result<(Formula, &[Terminal]), ReadError>
-    ensures read { IfOk result (λ r. atom_read tokens.now ≡ Some (formula_tree r.0, r.1.now)) }
+    ensures read { IfOk result (λ r. atom_read tokens.now ≡ Some (whole_formula r.0, r.1.now)) }
     ensures refused { IfErr result (λ e. Refuses e (atom_read tokens.now ≡ None)) }
 {
     if begins_congruence(tokens) {
@@ -103,7 +103,7 @@ fn begins_congruence(tokens: &[Terminal]) -> bool
 /// A comparison that a constraint may be: one but for `<>`.
 #[tactic(auto, using(crate::proofs::Options::options))]
 fn constraint(alloc: Global, tokens: &[Terminal]) -> Result<(Formula, &[Terminal]), ReadError>
-    ensures read { IfOk result (λ r. bound_read tokens.now ≡ Some (formula_tree r.0, r.1.now)) }
+    ensures read { IfOk result (λ r. bound_read tokens.now ≡ Some (whole_formula r.0, r.1.now)) }
     ensures refused { IfErr result (λ e. Refuses e (bound_read tokens.now ≡ None)) }
 {
     let (comparison, rest) = comparison(alloc, tokens)?;
@@ -114,9 +114,9 @@ fn constraint(alloc: Global, tokens: &[Terminal]) -> Result<(Formula, &[Terminal
 }
 
 /// Whether a formula is a comparison, but for `<>`.
-#[tactic(auto, using(qe_syntax::proofs::TreeEquations::trees))]
+#[tactic(auto, using(qe_syntax::proofs::TreeEquations::trees, qe_syntax::proofs::TreeEquations::wholes))]
 fn is_constraint(formula: &Formula) -> bool
-    ensures { result ≡ is_constraint (formula_tree formula.now) }
+    ensures { result ≡ is_constraint (whole_formula formula.now).tree }
 {
     match formula {
         Formula::Compare(relation, _, _) => *relation != Relation::Differs,
@@ -127,7 +127,7 @@ fn is_constraint(formula: &Formula) -> bool
 /// A comparison by `=`, `<=` or `>=`.
 #[tactic(auto, using(crate::proofs::Options::options))]
 fn weak(alloc: Global, tokens: &[Terminal]) -> Result<(Formula, &[Terminal]), ReadError>
-    ensures read { IfOk result (λ r. weak_read tokens.now ≡ Some (formula_tree r.0, r.1.now)) }
+    ensures read { IfOk result (λ r. weak_read tokens.now ≡ Some (whole_formula r.0, r.1.now)) }
     ensures refused { IfErr result (λ e. Refuses e (weak_read tokens.now ≡ None)) }
 {
     let (comparison, rest) = comparison(alloc, tokens)?;
@@ -138,9 +138,9 @@ fn weak(alloc: Global, tokens: &[Terminal]) -> Result<(Formula, &[Terminal]), Re
 }
 
 /// Whether a formula is a comparison by `=`, `<=` or `>=`.
-#[tactic(auto, using(qe_syntax::proofs::TreeEquations::trees))]
+#[tactic(auto, using(qe_syntax::proofs::TreeEquations::trees, qe_syntax::proofs::TreeEquations::wholes))]
 fn is_weak(formula: &Formula) -> bool
-    ensures { result ≡ is_weak_constraint (formula_tree formula.now) }
+    ensures { result ≡ is_weak_constraint (whole_formula formula.now).tree }
 {
     match formula {
         Formula::Compare(relation, _, _) => matches!(
@@ -157,7 +157,7 @@ fn atom_of(
     kind: AtomKind,
     tokens: &[Terminal],
 ) -> Result<(Formula, &[Terminal]), ReadError>
-    ensures read { IfOk result (λ r. kind_read kind tokens.now ≡ Some (formula_tree r.0, r.1.now)) }
+    ensures read { IfOk result (λ r. kind_read kind tokens.now ≡ Some (whole_formula r.0, r.1.now)) }
     ensures refused { IfErr result (λ e. Refuses e (kind_read kind tokens.now ≡ None)) }
 {
     match kind {
@@ -174,7 +174,7 @@ pub fn atoms(
     kind: AtomKind,
     tokens: &[Terminal],
 ) -> Result<(Vec<Formula>, &[Terminal]), ReadError>
-    ensures read { IfOk result (λ r. braced_read (kind_read kind) tokens.now ≡ Some (map formula_tree r.0.items, r.1.now)) }
+    ensures read { IfOk result (λ r. braced_read (kind_read kind) tokens.now ≡ Some (map whole_formula r.0.items, r.1.now)) }
     ensures refused { IfErr result (λ e. Refuses e (braced_read (kind_read kind) tokens.now ≡ None)) }
 {
     let Some(start) = after(tokens, Mark::OpenBrace) else {
@@ -197,7 +197,7 @@ fn listed(
     kind: AtomKind,
     tokens: &[Terminal],
 ) -> Result<(Vec<Formula>, &[Terminal]), ReadError>
-    ensures read { IfOk result (λ r. items_read (kind_read kind) tokens.now ≡ Some (map formula_tree r.0.items, r.1.now)) }
+    ensures read { IfOk result (λ r. items_read (kind_read kind) tokens.now ≡ Some (map whole_formula r.0.items, r.1.now)) }
     ensures refused { IfErr result (λ e. Refuses e (items_read (kind_read kind) tokens.now ≡ None)) }
 {
     let mut atoms = Vec::new(alloc);
@@ -218,7 +218,7 @@ pub fn argument(
     alloc: Global,
     tokens: &[Terminal],
 ) -> Result<(Formula, Vec<Formula>, &[Terminal]), ReadError>
-    ensures read { IfOk result (λ r. argument_read tokens.now ≡ Some ((formula_tree r.0, map formula_tree r.1.items), r.2.now)) }
+    ensures read { IfOk result (λ r. argument_read tokens.now ≡ Some ((whole_formula r.0, map whole_formula r.1.items), r.2.now)) }
     ensures refused { IfErr result (λ e. Refuses e (argument_read tokens.now ≡ None)) }
 {
     let Some(start) = after(tokens, Mark::Open) else {

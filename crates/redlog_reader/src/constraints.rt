@@ -1,5 +1,5 @@
 ghost use Rattle.std.specs.Prelude.{◌≡◌, map, IfOk, IfErr, Some, None};
-ghost use Rattle.qe_syntax.specs.CodeTrees.{term_tree, formula_tree};
+ghost use Rattle.qe_syntax.specs.CodeTrees.{term_tree, whole_formula};
 ghost use Rattle.redlog_reader.specs.Reader.{above_read, items_read, braced_read, certified_read, checked_read, least_read};
 ghost use Rattle.redlog_reader.specs.Reading.{Refuses};
 
@@ -17,7 +17,7 @@ pub fn constraints(
     alloc: Global,
     tokens: &[Terminal],
 ) -> Result<(Vec<Formula>, &[Terminal]), ReadError>
-    ensures read { IfOk result (λ r. certified_read tokens.now ≡ Some (map formula_tree r.0.items, r.1.now)) }
+    ensures read { IfOk result (λ r. certified_read tokens.now ≡ Some (map whole_formula r.0.items, r.1.now)) }
     ensures refused { IfErr result (λ e. Refuses e (certified_read tokens.now ≡ None)) }
 {
     let Some(start) = after(tokens, Mark::Open) else {
@@ -36,7 +36,7 @@ pub fn multiplied(
     alloc: Global,
     tokens: &[Terminal],
 ) -> Result<(Vec<Formula>, Literals, &[Terminal]), ReadError>
-    ensures read { IfOk result (λ r. checked_read tokens.now ≡ Some ((map formula_tree r.0.items, r.1), r.2.now)) }
+    ensures read { IfOk result (λ r. checked_read tokens.now ≡ Some ((map whole_formula r.0.items, r.1), r.2.now)) }
     ensures refused { IfErr result (λ e. Refuses e (checked_read tokens.now ≡ None)) }
 {
     let Some(start) = after(tokens, Mark::Open) else {
@@ -59,7 +59,7 @@ pub fn targeted(
     alloc: Global,
     tokens: &[Terminal],
 ) -> Result<(Vec<Formula>, Term, &[Terminal]), ReadError>
-    ensures read { IfOk result (λ r. least_read tokens.now ≡ Some ((map formula_tree r.0.items, term_tree r.1), r.2.now)) }
+    ensures read { IfOk result (λ r. least_read tokens.now ≡ Some ((map whole_formula r.0.items, term_tree r.1), r.2.now)) }
     ensures refused { IfErr result (λ e. Refuses e (least_read tokens.now ≡ None)) }
 {
     let Some(start) = after(tokens, Mark::Open) else {

@@ -1,10 +1,12 @@
 ghost use Rattle.std.specs.Prelude.{◌≡◌, [], ◌∷◌, ◌++◌, map, IfOk, IfErr, OnOk};
-ghost use Rattle.qe_syntax.specs.CodeTrees.{term_tree, formula_tree};
+ghost use Rattle.qe_syntax.specs.CodeTrees.{term_tree, whole_formula};
 ghost use Rattle.redlog_reader.specs.Grammar.{sum_of, product_of};
-ghost use Rattle.redlog_reader.specs.Machine.{Negation, Compares, Added, Multiplied, Listed, Arrows, signed_term, multiplied, list_of, arrow_of, ended};
+ghost use Rattle.redlog_reader.specs.Machine.{Negation, Compares, Added, Multiplied, Listed, Arrows, Commanded, signed_term, multiplied, list_of, arrow_of, ended};
 ghost use Rattle.redlog_reader.specs.Reading.{Refuses};
 ghost use Rattle.redlog_reader.specs.View.{reading_of, frame_of};
 
+use crate::call::computed_by;
+use crate::inner_word::InnerWord;
 use crate::operand::{Operand, formula_of, formula_operand, term_of, term_operand};
 use crate::pending::{Arrow, Pending};
 use formula_meaning::Junction;
@@ -27,6 +29,7 @@ pub fn ended(alloc: Global, pending: Pending, operand: Operand) -> Result<Operan
         Pending::Multiplied(over, factors) => product(alloc, over, factors, operand),
         Pending::Listed(junction, members) => joined(alloc, junction, members, operand),
         Pending::Arrows(arrow, left) => implied(alloc, arrow, left, operand),
+        Pending::Commanded(word) => commanded(alloc, word, operand),
         _ => Err(ReadError::Syntax),
     }
 }
@@ -43,7 +46,7 @@ fn negated(alloc: Global, operand: Operand) -> Result<Operand, ReadError>
     formula_operand(alloc, negated)
 }
 
-#[tactic(auto, using(crate::proofs::Steps::choices, qe_syntax::proofs::TreeEquations::trees))]
+#[tactic(auto, using(crate::proofs::Steps::choices, qe_syntax::proofs::TreeEquations::trees, qe_syntax::proofs::TreeEquations::wholes))]
 fn compared(
     alloc: Global,
     relation: Relation,
@@ -85,7 +88,7 @@ pub fn added(minus: bool, mut members: Vec<Term>, term: Box<Term>) -> Result<Vec
 }
 
 /// The term, which may get the sign `-`.
-#[tactic(auto, using(qe_syntax::proofs::TreeEquations::trees))]
+#[tactic(auto, using(qe_syntax::proofs::TreeEquations::trees, qe_syntax::proofs::TreeEquations::wholes))]
 fn signed(minus: bool, term: Box<Term>) -> Term
     ensures { term_tree result ≡ signed_term minus (term_tree term.value) }
 {
@@ -97,7 +100,7 @@ fn signed(minus: bool, term: Box<Term>) -> Term
 }
 
 /// The sum of the members, or the member where there is one alone.
-#[tactic(auto, using(qe_syntax::proofs::TreeEquations::trees))]
+#[tactic(auto, using(qe_syntax::proofs::TreeEquations::trees, qe_syntax::proofs::TreeEquations::wholes))]
 fn sum_of(mut members: Vec<Term>) -> Term
     ensures { term_tree result ≡ sum_of (map term_tree members.items) }
 {
@@ -146,7 +149,7 @@ pub fn multiplied(
 }
 
 /// The product of the factors, or the factor where there is one alone.
-#[tactic(auto, using(qe_syntax::proofs::TreeEquations::trees))]
+#[tactic(auto, using(qe_syntax::proofs::TreeEquations::trees, qe_syntax::proofs::TreeEquations::wholes))]
 fn product_of(mut factors: Vec<Term>) -> Term
     ensures { term_tree result ≡ product_of (map term_tree factors.items) }
 {
@@ -164,8 +167,8 @@ fn joined(
     mut members: Vec<Formula>,
     operand: Operand,
 ) -> Result<Operand, ReadError>
-    ensures ended { IfOk result (λ o. ended (Listed junction (map formula_tree members.items)) (reading_of operand) ≡ Some (reading_of o)) }
-    ensures refused { IfErr result (λ e. Refuses e (ended (Listed junction (map formula_tree members.items)) (reading_of operand) ≡ None)) }
+    ensures ended { IfOk result (λ o. ended (Listed junction (map whole_formula members.items)) (reading_of operand) ≡ Some (reading_of o)) }
+    ensures refused { IfErr result (λ e. Refuses e (ended (Listed junction (map whole_formula members.items)) (reading_of operand) ≡ None)) }
 {
     let Some(formula) = formula_of(operand) else {
         return Err(ReadError::Syntax);
@@ -176,16 +179,16 @@ fn joined(
 
 /// Puts a formula at the end of a list.
 pub fn put(members: &mut Vec<Formula>, formula: Formula) -> Result<(), AllocError>
-    ensures { OnOk result (map formula_tree members.new.items ≡ map formula_tree members.old.items ++ formula_tree formula ∷ []) }
+    ensures { OnOk result (map whole_formula members.new.items ≡ map whole_formula members.old.items ++ whole_formula formula ∷ []) }
 {
     members.push(formula)?;
     Ok(())
 }
 
 /// The conjunction or disjunction of the members, or the member where there is one alone.
-#[tactic(auto, using(qe_syntax::proofs::TreeEquations::trees))]
+#[tactic(auto, using(qe_syntax::proofs::TreeEquations::trees, qe_syntax::proofs::TreeEquations::wholes))]
 fn list_of(junction: Junction, mut members: Vec<Formula>) -> Formula
-    ensures { formula_tree result ≡ list_of junction (map formula_tree members.items) }
+    ensures { whole_formula result ≡ list_of junction (map whole_formula members.items) }
 {
     if members.len() == 1 {
         return members.remove(0);
@@ -197,14 +200,26 @@ fn list_of(junction: Junction, mut members: Vec<Formula>) -> Formula
 }
 
 #[tactic(auto, using(crate::proofs::Steps::choices))]
+fn commanded(alloc: Global, word: InnerWord, operand: Operand) -> Result<Operand, ReadError>
+    ensures ended { IfOk result (λ o. ended (Commanded word) (reading_of operand) ≡ Some (reading_of o)) }
+    ensures refused { IfErr result (λ e. Refuses e (ended (Commanded word) (reading_of operand) ≡ None)) }
+{
+    let Some(formula) = formula_of(operand) else {
+        return Err(ReadError::Syntax);
+    };
+    let computed = computed_by(alloc, word, formula, Vec::new(alloc))?;
+    formula_operand(alloc, computed)
+}
+
+#[tactic(auto, using(crate::proofs::Steps::choices))]
 fn implied(
     alloc: Global,
     arrow: Arrow,
     left: Box<Formula>,
     operand: Operand,
 ) -> Result<Operand, ReadError>
-    ensures ended { IfOk result (λ o. ended (Arrows arrow (formula_tree left.value)) (reading_of operand) ≡ Some (reading_of o)) }
-    ensures refused { IfErr result (λ e. Refuses e (ended (Arrows arrow (formula_tree left.value)) (reading_of operand) ≡ None)) }
+    ensures ended { IfOk result (λ o. ended (Arrows arrow (whole_formula left.value)) (reading_of operand) ≡ Some (reading_of o)) }
+    ensures refused { IfErr result (λ e. Refuses e (ended (Arrows arrow (whole_formula left.value)) (reading_of operand) ≡ None)) }
 {
     let Some(right) = formula_of(operand) else {
         return Err(ReadError::Syntax);
@@ -220,7 +235,7 @@ pub fn arrow_of(
     left: Formula,
     right: Formula,
 ) -> Result<Formula, AllocError>
-    ensures { IfOk result (λ f. formula_tree f ≡ arrow_of arrow (formula_tree left) (formula_tree right)) }
+    ensures { IfOk result (λ f. whole_formula f ≡ arrow_of arrow (whole_formula left) (whole_formula right)) }
 {
     match arrow {
         Arrow::Impl => implication(alloc, left, right),

@@ -1,5 +1,5 @@
 ghost use Rattle.std.specs.Prelude.{◌≡◌, IfOk, IfErr, MatchOption, Some, None};
-ghost use Rattle.qe_syntax.specs.CodeTrees.{formula_tree};
+ghost use Rattle.qe_syntax.specs.CodeTrees.{whole_formula};
 ghost use Rattle.redlog_reader.specs.Reader.{items_read, ratio_read, axis_read, grid_read};
 ghost use Rattle.redlog_reader.specs.Reading.{Refuses};
 
@@ -17,7 +17,7 @@ pub fn grid(
     alloc: Global,
     tokens: &[Terminal],
 ) -> Result<(Formula, GridAxes, &[Terminal]), ReadError>
-    ensures read { IfOk result (λ r. grid_read tokens.now ≡ Some ((formula_tree r.0, r.1), r.2.now)) }
+    ensures read { IfOk result (λ r. grid_read tokens.now ≡ Some ((whole_formula r.0, r.1), r.2.now)) }
     ensures refused { IfErr result (λ e. Refuses e (grid_read tokens.now ≡ None)) }
 {
     let Some(start) = after(tokens, Mark::Open) else {

@@ -2,9 +2,11 @@
 #![tactic(auto)]
 
 mod argument;
+mod call;
 mod constraints;
 mod ending;
 mod grid;
+mod inner_word;
 mod machine;
 mod operand;
 mod peek;

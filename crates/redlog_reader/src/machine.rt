@@ -1,13 +1,18 @@
 ghost use Rattle.std.specs.Prelude.{◌≡◌, Bool, List, [], ◌∷◌, ◌++◌, map, IfOk, IfErr, OnOk};
 ghost use Rattle.formula_meaning.specs.Shape.{quantified};
-ghost use Rattle.qe_syntax.specs.CodeTrees.{term_tree, formula_tree};
+ghost use Rattle.qe_syntax.specs.CodeTrees.{term_tree, whole_formula};
+ghost use Rattle.qe_syntax.specs.Holes.{over};
 ghost use Rattle.redlog_tokens.specs.declared.terminal.Terminal.{Terminal};
-ghost use Rattle.redlog_reader.specs.Machine.{Frame, Quantified, Congruence, Wants, Fresh, Moves, Fails, raised_to, binds, first_bound, next_bound, after_bound, scoped, opens, strength, Added, takes, folded, factors, members, listed, grouped, pushed, multiplies, adds, compares, joins, implies, congruence_of, closed, separated, operated, joined, held, fresh, wanted, step, run};
+ghost use Rattle.redlog_reader.specs.Machine.{Frame, Quantified, Congruence, Wants, Fresh, Moves, Fails, raised_to, binds, first_bound, next_bound, after_bound, scoped, opens, strength, Added, takes, folded, factors, members, listed, grouped, pushed, multiplies, adds, compares, joins, implies, congruence_of, congruence_read, closed, separated, operated, joined, held, fresh, wanted, step, run};
 ghost use Rattle.redlog_reader.specs.Grammar.{quantified_names};
 ghost use Rattle.redlog_reader.specs.Machine as reading;
 ghost use Rattle.redlog_reader.specs.Reading.{Refuses};
 ghost use Rattle.redlog_reader.specs.View.{reading_of, arguments_of, frame_of, frames, mode_of, outcome_of};
 
+use crate::call::{
+    atom, atom_end, begin_command, brace, enclose, end_comparison, end_congruence, end_formula,
+    given_end,
+};
 use crate::ending::{added, ended, multiplied, put};
 use crate::operand::{Operand, formula_of, formula_operand, name_operand, term_of, term_operand};
 use crate::pending::{Arguments, Arrow, Expects, Pending, Step, level, takes_last};
@@ -61,12 +66,16 @@ fn step(
         Expects::NameEnd(quantifier, names) => name_end(pending, terminal, quantifier, names),
         Expects::Scope(quantifier, names) => scope(pending, terminal, quantifier, names),
         Expects::Terms(positive) => terms(pending, terminal, positive),
+        Expects::Brace(call) => brace(pending, terminal, call),
+        Expects::Atom(call) => atom(alloc, goal, pending, terminal, call),
+        Expects::AtomEnd(call) => atom_end(pending, terminal, call),
+        Expects::GivenEnd(call) => given_end(alloc, pending, terminal, call),
     }
 }
 
 /// The first terminal of an operand.
-#[tactic(auto, using(crate::proofs::Frames::steps, qe_syntax::proofs::TreeEquations::trees))]
-fn begin(
+#[tactic(auto, using(crate::proofs::Frames::steps, qe_syntax::proofs::TreeEquations::trees, qe_syntax::proofs::TreeEquations::wholes))]
+pub fn begin(
     alloc: Global,
     goal: usize,
     pending: &mut Vec<Pending>,
@@ -110,7 +119,7 @@ fn sign(
 }
 
 /// The first word of an operand.
-#[tactic(auto, using(crate::proofs::Frames::steps, qe_syntax::proofs::TreeEquations::trees))]
+#[tactic(auto, using(crate::proofs::Frames::steps, qe_syntax::proofs::TreeEquations::trees, qe_syntax::proofs::TreeEquations::wholes))]
 fn begin_with(
     alloc: Global,
     goal: usize,
@@ -128,13 +137,13 @@ fn begin_with(
         Word::All => Ok(Step::Moves(Expects::Binder(Quantifier::ForAll))),
         Word::Cong => Ok(Step::Moves(Expects::Terms(true))),
         Word::Ncong => Ok(Step::Moves(Expects::Terms(false))),
-        _ => Err(ReadError::Syntax),
+        _ => begin_command(pending, word),
     }
 }
 
 /// A truth that was read.
 fn truth(alloc: Global, formula: Formula) -> Result<Step, ReadError>
-    ensures moves { IfOk result (λ s. (fs : List Frame) → outcome_of s fs ≡ Moves fs (Fresh (reading.Formula (formula_tree formula)))) }
+    ensures moves { IfOk result (λ s. (fs : List Frame) → outcome_of s fs ≡ Moves fs (Fresh (reading.Formula (whole_formula formula)))) }
     ensures memory { IfErr result (λ e. e ≡ ReadError.Memory) }
 {
     let truth = formula_operand(alloc, formula)?;
@@ -165,7 +174,7 @@ fn raise(
 }
 
 /// The exponent of a power.
-#[tactic(auto, using(crate::proofs::Frames::steps, qe_syntax::proofs::TreeEquations::trees))]
+#[tactic(auto, using(crate::proofs::Frames::steps, qe_syntax::proofs::TreeEquations::trees, qe_syntax::proofs::TreeEquations::wholes))]
 fn exponent(
     alloc: Global,
     pending: &mut Vec<Pending>,
@@ -388,7 +397,8 @@ fn operate(
         Terminal::Mark(Mark::Plus) => add(alloc, goal, pending, false, operand),
         Terminal::Mark(Mark::Minus) => add(alloc, goal, pending, true, operand),
         Terminal::Mark(Mark::Close) => close(alloc, pending, operand),
-        Terminal::Mark(Mark::Comma) => separate(pending, operand),
+        Terminal::Mark(Mark::Comma) => separate(alloc, pending, operand),
+        Terminal::Mark(Mark::CloseBrace) => enclose(pending, operand),
         Terminal::Relation(relation) => compare(goal, pending, *relation, operand),
         Terminal::Word(word) => operate_word(alloc, goal, pending, *word, operand),
         _ => Err(ReadError::Syntax),
@@ -442,7 +452,7 @@ fn takes(goal: usize, pending: &[Pending]) -> usize
 
 /// Puts what has begun on the others.
 #[tactic(auto, using(crate::proofs::Frames::steps))]
-fn put_pending(pending: &mut Vec<Pending>, next: Pending) -> Result<(), AllocError>
+pub fn put_pending(pending: &mut Vec<Pending>, next: Pending) -> Result<(), AllocError>
     ensures { OnOk result (frames pending.new.items ≡ frame_of next ∷ frames pending.old.items) }
 {
     pending.push(next)?;
@@ -536,7 +546,17 @@ fn compare(
     let Some(term) = term_of(operand) else {
         return Err(ReadError::Syntax);
     };
-    push(goal, pending, Pending::Compares(relation, term))
+    match pending.pop() {
+        Some(Pending::Assumes(call)) => {
+            put_pending(pending, Pending::Relates(call, relation, term))?;
+            Ok(Step::Moves(Expects::Operand))
+        }
+        Some(other) => {
+            put_pending(pending, other)?;
+            push(goal, pending, Pending::Compares(relation, term))
+        }
+        None => push(goal, pending, Pending::Compares(relation, term)),
+    }
 }
 
 #[tactic(auto, using(crate::proofs::Frames::steps))]
@@ -565,7 +585,7 @@ fn listed(
     junction: Junction,
     formula: Formula,
 ) -> Result<Vec<Formula>, AllocError>
-    ensures { IfOk result (λ fs. listed junction (frames pending.old.items) (formula_tree formula) ≡ (map formula_tree fs.items, frames pending.new.items)) }
+    ensures { IfOk result (λ fs. listed junction (frames pending.old.items) (whole_formula formula) ≡ (map whole_formula fs.items, frames pending.new.items)) }
 {
     match (junction, pending.pop()) {
         (Junction::Conjunction, Some(Pending::Listed(Junction::Conjunction, members))) => {
@@ -584,7 +604,7 @@ fn listed(
 
 /// The members with one more.
 fn with(mut members: Vec<Formula>, formula: Formula) -> Result<Vec<Formula>, AllocError>
-    ensures { IfOk result (λ fs. map formula_tree fs.items ≡ map formula_tree members.items ++ formula_tree formula ∷ []) }
+    ensures { IfOk result (λ fs. map whole_formula fs.items ≡ map whole_formula members.items ++ whole_formula formula ∷ []) }
 {
     put(&mut members, formula)?;
     Ok(members)
@@ -617,7 +637,7 @@ fn grouped(
     arrow: Arrow,
     formula: Formula,
 ) -> Result<Formula, AllocError>
-    ensures { IfOk result (λ f. grouped arrow (frames pending.old.items) (formula_tree formula) ≡ (formula_tree f, frames pending.new.items)) }
+    ensures { IfOk result (λ f. grouped arrow (frames pending.old.items) (whole_formula formula) ≡ (whole_formula f, frames pending.new.items)) }
 {
     match (arrow, pending.pop()) {
         (Arrow::Repl, Some(Pending::Arrows(Arrow::Repl, left))) => {
@@ -649,8 +669,7 @@ fn close(alloc: Global, pending: &mut Vec<Pending>, operand: Operand) -> Result<
         }
         Some(Pending::Congruence(positive, terms)) => {
             let formula = close_congruence(positive, terms, operand)?;
-            let formula = formula_operand(alloc, formula)?;
-            Ok(Step::Moves(Expects::Power(formula)))
+            end_congruence(alloc, pending, formula)
         }
         _ => Err(ReadError::Syntax),
     }
@@ -664,7 +683,7 @@ fn close_quantifier(
     names: Vec<Name>,
     operand: Operand,
 ) -> Result<Formula, ReadError>
-    ensures made { IfOk result (λ f. (fs : List Frame) → closed (Quantified quantifier names.items ∷ fs) (reading_of operand) ≡ Moves fs (Fresh (reading.Formula (formula_tree f)))) }
+    ensures made { IfOk result (λ f. (fs : List Frame) → closed (Quantified quantifier names.items ∷ fs) (reading_of operand) ≡ Moves fs (Fresh (reading.Formula (whole_formula f)))) }
     ensures refused { IfErr result (λ e. (fs : List Frame) → Refuses e (closed (Quantified quantifier names.items ∷ fs) (reading_of operand) ≡ Fails)) }
 {
     let Some(formula) = formula_of(operand) else {
@@ -681,7 +700,7 @@ fn close_congruence(
     terms: Arguments,
     operand: Operand,
 ) -> Result<Formula, ReadError>
-    ensures made { IfOk result (λ f. (fs : List Frame) → closed (Congruence positive (arguments_of terms) ∷ fs) (reading_of operand) ≡ Moves fs (Fresh (reading.Formula (formula_tree f)))) }
+    ensures made { IfOk result (λ f. (fs : List Frame) → closed (Congruence positive (arguments_of terms) ∷ fs) (reading_of operand) ≡ congruence_read fs (whole_formula f)) }
     ensures refused { IfErr result (λ e. (fs : List Frame) → Refuses e (closed (Congruence positive (arguments_of terms) ∷ fs) (reading_of operand) ≡ Fails)) }
 {
     let Arguments::Third(left, right) = terms else {
@@ -701,7 +720,7 @@ fn quantified(
     mut names: Vec<Name>,
     formula: Formula,
 ) -> Result<Formula, AllocError>
-    ensures { IfOk result (λ f. formula_tree f ≡ quantified_names quantifier names.items (formula_tree formula)) }
+    ensures { IfOk result (λ f. whole_formula f ≡ quantified_names quantifier names.items (whole_formula formula)) }
 {
     let mut whole = formula;
     'names: while let Some(name) = names.pop() {
@@ -716,7 +735,7 @@ fn bound(
     name: Name,
     formula: Formula,
 ) -> Result<Formula, AllocError>
-    ensures { IfOk result (λ f. formula_tree f ≡ quantified quantifier name (formula_tree formula)) }
+    ensures { IfOk result (λ f. whole_formula f ≡ over (quantified quantifier name) (whole_formula formula)) }
 {
     match quantifier {
         Quantifier::Exists => existential(alloc, name, formula),
@@ -725,9 +744,9 @@ fn bound(
 }
 
 /// The congruence of two terms modulo a third, or its negation.
-#[tactic(auto, using(qe_syntax::proofs::TreeEquations::trees))]
+#[tactic(auto, using(qe_syntax::proofs::TreeEquations::trees, qe_syntax::proofs::TreeEquations::wholes))]
 fn congruence_of(positive: bool, left: Box<Term>, right: Box<Term>, modulus: Box<Term>) -> Formula
-    ensures { formula_tree result ≡ congruence_of positive (term_tree left.value) (term_tree right.value) (term_tree modulus.value) }
+    ensures { whole_formula result ≡ congruence_of positive (term_tree left.value) (term_tree right.value) (term_tree modulus.value) }
 {
     if positive {
         Formula::Cong(left, right, modulus)
@@ -736,9 +755,9 @@ fn congruence_of(positive: bool, left: Box<Term>, right: Box<Term>, modulus: Box
     }
 }
 
-/// A comma, which ends one of the first two terms of a congruence.
+/// A comma: it ends one of the first two terms of a congruence, the formula of a command, or an atom that one may assume.
 #[tactic(auto, using(crate::proofs::Frames::steps))]
-fn separate(pending: &mut Vec<Pending>, operand: Operand) -> Result<Step, ReadError>
+fn separate(alloc: Global, pending: &mut Vec<Pending>, operand: Operand) -> Result<Step, ReadError>
     ensures taken { IfOk result (λ s. separated (frames pending.old.items) (reading_of operand) ≡ outcome_of s (frames pending.new.items)) }
     ensures refused { IfErr result (λ e. Refuses e (separated (frames pending.old.items) (reading_of operand) ≡ Fails)) }
 {
@@ -747,6 +766,11 @@ fn separate(pending: &mut Vec<Pending>, operand: Operand) -> Result<Step, ReadEr
             let terms = one_more(terms, operand)?;
             put_pending(pending, Pending::Congruence(positive, terms))?;
             Ok(Step::Moves(Expects::Operand))
+        }
+        Some(Pending::Group) => end_formula(alloc, pending, operand),
+        Some(Pending::Relates(call, relation, left)) => {
+            let call = end_comparison(call, relation, left, operand)?;
+            Ok(Step::Moves(Expects::Atom(call)))
         }
         _ => Err(ReadError::Syntax),
     }

@@ -1,5 +1,5 @@
 ghost use Rattle.std.specs.Prelude.{◌≡◌, Some, None, MatchOption, IfOk, IfErr};
-ghost use Rattle.qe_syntax.specs.CodeTrees.{term_tree, formula_tree};
+ghost use Rattle.qe_syntax.specs.CodeTrees.{term_tree, whole_formula};
 ghost use Rattle.redlog_reader.specs.Machine.{term_of, formula_of};
 ghost use Rattle.redlog_reader.specs.Machine as Reading;
 ghost use Rattle.redlog_reader.specs.View.{reading_of, named_reading};
@@ -18,7 +18,7 @@ pub enum Operand {
 }
 
 /// The term that was read.
-#[tactic(auto, using(qe_syntax::proofs::TreeEquations::trees))]
+#[tactic(auto, using(qe_syntax::proofs::TreeEquations::trees, qe_syntax::proofs::TreeEquations::wholes))]
 pub fn term_of(operand: Operand) -> Option<Box<Term>>
     ensures { MatchOption result (term_of (reading_of operand) ≡ None) (λ t. term_of (reading_of operand) ≡ Some (term_tree t.value)) }
 {
@@ -29,9 +29,9 @@ pub fn term_of(operand: Operand) -> Option<Box<Term>>
 }
 
 /// The formula that was read.
-#[tactic(auto, using(qe_syntax::proofs::TreeEquations::trees))]
+#[tactic(auto, using(qe_syntax::proofs::TreeEquations::trees, qe_syntax::proofs::TreeEquations::wholes))]
 pub fn formula_of(operand: Operand) -> Option<Formula>
-    ensures { MatchOption result (formula_of (reading_of operand) ≡ None) (λ f. formula_of (reading_of operand) ≡ Some (formula_tree f)) }
+    ensures { MatchOption result (formula_of (reading_of operand) ≡ None) (λ f. formula_of (reading_of operand) ≡ Some (whole_formula f)) }
 {
     match operand {
         Operand::Formula(formula) => Some(Box::into_inner(formula)),
@@ -41,9 +41,9 @@ pub fn formula_of(operand: Operand) -> Option<Formula>
 }
 
 /// The formula that a term is: a name.
-#[tactic(auto, using(qe_syntax::proofs::TreeEquations::trees))]
+#[tactic(auto, using(qe_syntax::proofs::TreeEquations::trees, qe_syntax::proofs::TreeEquations::wholes))]
 fn named(term: Term) -> Option<Formula>
-    ensures { MatchOption result (formula_of (named_reading term) ≡ None) (λ f. formula_of (named_reading term) ≡ Some (formula_tree f)) }
+    ensures { MatchOption result (formula_of (named_reading term) ≡ None) (λ f. formula_of (named_reading term) ≡ Some (whole_formula f)) }
 {
     match term {
         Term::Name(name) => Some(Formula::Named(name)),
@@ -62,7 +62,7 @@ pub fn term_operand(alloc: Global, term: Term) -> Result<Operand, ReadError>
 
 /// A formula that was read.
 pub fn formula_operand(alloc: Global, formula: Formula) -> Result<Operand, ReadError>
-    ensures read { IfOk result (λ o. reading_of o ≡ Reading.Formula (formula_tree formula)) }
+    ensures read { IfOk result (λ o. reading_of o ≡ Reading.Formula (whole_formula formula)) }
     ensures memory { IfErr result (λ e. e ≡ ReadError.Memory) }
 {
     let formula = Box::new(alloc, formula)?;

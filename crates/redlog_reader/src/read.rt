@@ -10,10 +10,10 @@ use statement_syntax::Statement;
 use std::alloc::Global;
 
 /// A piece is at most so long, in bytes.
-pub const BYTE_LIMIT: usize = 1_048_576;
+pub const BYTE_LIMIT: usize = 4_194_304;
 
 /// The statement that the bytes of one piece spell, with its end mark. Why they spell none is the first of: `Long`, they
-/// are more than 1 MiB; `Lexical`, a token is bad; `Nesting`, the level of a token passes 512; `Syntax`, the tokens
+/// are more than 4 MiB; `Lexical`, a token is bad; `Nesting`, the level of a token passes 512; `Syntax`, the tokens
 /// spell no statement.
 pub fn read_statement(alloc: Global, bytes: &[u8]) -> Result<Statement, ReadError>
     ensures spelled { IfOk result (λ s. Spells bytes.now (statement_tree s)) }

@@ -1,13 +1,14 @@
 ghost use Rattle.std.specs.Prelude.{◌≡◌, ◌∷◌, IfOk, IfErr, MatchOption, Some, None};
-ghost use Rattle.qe_syntax.specs.CodeTrees.{formula_tree};
-ghost use Rattle.statement_syntax.specs.Statements.{Say, Assign};
-ghost use Rattle.statement_syntax.specs.CodeTrees.{statement_tree, action_tree, command_tree};
+ghost use Rattle.qe_syntax.specs.CodeTrees.{whole_formula};
+ghost use Rattle.statement_syntax.specs.Statements.{Say};
+ghost use Rattle.statement_syntax.specs.Inner.{around};
+ghost use Rattle.statement_syntax.specs.CodeTrees.{statement_tree, whole_action, whole_command};
 ghost use Rattle.redlog_tokens.specs.declared.terminal.Terminal.{Terminal};
-ghost use Rattle.redlog_reader.specs.Grammar.{setting_of};
-ghost use Rattle.redlog_reader.specs.Reader.{pointed_read, result_from, result_read, is_any, anys_read, context_read, ignored_read, assumed_read, action_from, named_from, action_read, alone, ending, statement_read};
+ghost use Rattle.redlog_reader.specs.Grammar.{setting_of, result_of};
+ghost use Rattle.redlog_reader.specs.Reader.{pointed_read, result_read, is_any, anys_read, context_read, ignored_read, assumed_read, action_from, named_from, action_read, alone, ending, statement_read};
 ghost use Rattle.redlog_reader.specs.Reading.{Refuses};
 
-use crate::argument::{AtomKind, FORMULA, PRIME, argument, atoms, formula};
+use crate::argument::{AtomKind, FORMULA, argument, atoms, formula};
 use crate::constraints::{constraints, multiplied, targeted};
 use crate::grid::grid;
 use crate::peek::{after, name, next};
@@ -77,7 +78,7 @@ fn action<'a>(
     tokens: &'a [Terminal],
 ) -> Result<(Action, &'a [Terminal]), ReadError>
     requires { tokens.now ≡ first ∷ rest.now }
-    ensures read { IfOk result (λ r. action_read tokens.now ≡ Some (action_tree r.0, r.1.now)) }
+    ensures read { IfOk result (λ r. action_read tokens.now ≡ Some (whole_action r.0, r.1.now)) }
     ensures refused { IfErr result (λ e. Refuses e (action_read tokens.now ≡ None)) }
 {
     match first {
@@ -100,7 +101,7 @@ fn action_from<'a>(
     tokens: &'a [Terminal],
 ) -> Result<(Action, &'a [Terminal]), ReadError>
     requires { tokens.now ≡ Terminal.Word word ∷ rest.now }
-    ensures read { IfOk result (λ r. action_from word rest.now ≡ Some (action_tree r.0, r.1.now)) }
+    ensures read { IfOk result (λ r. action_from word rest.now ≡ Some (whole_action r.0, r.1.now)) }
     ensures refused { IfErr result (λ e. Refuses e (action_from word rest.now ≡ None)) }
 {
     match word {
@@ -148,7 +149,7 @@ fn action_from<'a>(
             Ok((action, rest))
         }
         _ => {
-            let (command, rest) = result_from(alloc, word, rest, tokens)?;
+            let (command, rest) = result_of(alloc, tokens)?;
             let action = say(alloc, command)?;
             Ok((action, rest))
         }
@@ -164,7 +165,7 @@ fn named_from<'a>(
     tokens: &'a [Terminal],
 ) -> Result<(Action, &'a [Terminal]), ReadError>
     requires { tokens.now ≡ Terminal.Name name ∷ rest.now }
-    ensures read { IfOk result (λ r. named_from name rest.now ≡ Some (action_tree r.0, r.1.now)) }
+    ensures read { IfOk result (λ r. named_from name rest.now ≡ Some (whole_action r.0, r.1.now)) }
     ensures refused { IfErr result (λ e. Refuses e (named_from name rest.now ≡ None)) }
 {
     if let Some(start) = after(rest, Mark::Assign) {
@@ -172,14 +173,14 @@ fn named_from<'a>(
         let command = Box::new(alloc, command)?;
         return Ok((Action::Assign(name, command), end));
     }
-    let (formula, end) = formula(alloc, FORMULA, tokens)?;
-    let action = say(alloc, Command::Echo(formula))?;
+    let (command, end) = result_of(alloc, tokens)?;
+    let action = say(alloc, command)?;
     Ok((action, end))
 }
 
 /// The action that is this command.
 fn say(alloc: Global, command: Command) -> Result<Action, AllocError>
-    ensures { IfOk result (λ a. action_tree a ≡ Say (command_tree command)) }
+    ensures { IfOk result (λ a. whole_action a ≡ around Say (whole_command command)) }
 {
     let command = Box::new(alloc, command)?;
     Ok(Action::Say(command))
@@ -188,7 +189,7 @@ fn say(alloc: Global, command: Command) -> Result<Action, AllocError>
 /// The context to be chosen.
 #[tactic(auto, using(crate::proofs::Options::options))]
 fn context(tokens: &[Terminal]) -> Result<(Action, &[Terminal]), ReadError>
-    ensures read { IfOk result (λ r. context_read tokens.now ≡ Some (action_tree r.0, r.1.now)) }
+    ensures read { IfOk result (λ r. context_read tokens.now ≡ Some (whole_action r.0, r.1.now)) }
     ensures refused { IfErr result (λ e. Refuses e (context_read tokens.now ≡ None)) }
 {
     let Some((name, rest)) = name(tokens) else {
@@ -203,7 +204,7 @@ fn context(tokens: &[Terminal]) -> Result<(Action, &[Terminal]), ReadError>
 /// Names and words that change nothing.
 #[tactic(auto, using(crate::proofs::Options::options))]
 fn ignored(tokens: &[Terminal]) -> Result<(Action, &[Terminal]), ReadError>
-    ensures read { IfOk result (λ r. ignored_read tokens.now ≡ Some (action_tree r.0, r.1.now)) }
+    ensures read { IfOk result (λ r. ignored_read tokens.now ≡ Some (whole_action r.0, r.1.now)) }
     ensures refused { IfErr result (λ e. Refuses e (ignored_read tokens.now ≡ None)) }
 {
     let Some(rest) = anys(tokens) else {
@@ -215,7 +216,7 @@ fn ignored(tokens: &[Terminal]) -> Result<(Action, &[Terminal]), ReadError>
 /// Atoms to be assumed.
 #[tactic(auto, using(crate::proofs::Options::options))]
 fn assumed(alloc: Global, tokens: &[Terminal]) -> Result<(Action, &[Terminal]), ReadError>
-    ensures read { IfOk result (λ r. assumed_read tokens.now ≡ Some (action_tree r.0, r.1.now)) }
+    ensures read { IfOk result (λ r. assumed_read tokens.now ≡ Some (whole_action r.0, r.1.now)) }
     ensures refused { IfErr result (λ e. Refuses e (assumed_read tokens.now ≡ None)) }
 {
     let (given, rest) = atoms(alloc, AtomKind::Any, tokens)?;
@@ -250,7 +251,7 @@ fn is_any(terminal: &Terminal) -> bool
 /// A formula and a point in brackets.
 #[tactic(auto, using(crate::proofs::Options::options))]
 fn pointed(alloc: Global, tokens: &[Terminal]) -> Result<(Formula, Entries, &[Terminal]), ReadError>
-    ensures read { IfOk result (λ r. pointed_read tokens.now ≡ Some ((formula_tree r.0, r.1), r.2.now)) }
+    ensures read { IfOk result (λ r. pointed_read tokens.now ≡ Some ((whole_formula r.0, r.1), r.2.now)) }
     ensures refused { IfErr result (λ e. Refuses e (pointed_read tokens.now ≡ None)) }
 {
     let Some(start) = after(tokens, Mark::Open) else {
@@ -267,61 +268,23 @@ fn pointed(alloc: Global, tokens: &[Terminal]) -> Result<(Formula, Entries, &[Te
     Ok((formula, entries, rest))
 }
 
-/// A command that gives a formula.
+/// A formula by itself, or a command that gives one.
 #[tactic(auto, using(crate::proofs::Options::options))]
 fn result_of(alloc: Global, tokens: &[Terminal]) -> Result<(Command, &[Terminal]), ReadError>
-    ensures read { IfOk result (λ r. result_read tokens.now ≡ Some (command_tree r.0, r.1.now)) }
+    ensures read { IfOk result (λ r. result_read tokens.now ≡ Some (whole_command r.0, r.1.now)) }
     ensures refused { IfErr result (λ e. Refuses e (result_read tokens.now ≡ None)) }
 {
-    match next(tokens) {
-        Some((Terminal::Word(word), rest)) => result_from(alloc, word, rest, tokens),
-        _ => {
-            let (formula, rest) = formula(alloc, FORMULA, tokens)?;
-            Ok((Command::Echo(formula), rest))
-        }
-    }
+    let (formula, rest) = formula(alloc, FORMULA, tokens)?;
+    Ok((command_of(formula), rest))
 }
 
-/// A command that gives a formula and begins with this word.
-#[tactic(auto, using(crate::proofs::Options::options))]
-fn result_from<'a>(
-    alloc: Global,
-    word: Word,
-    rest: &'a [Terminal],
-    tokens: &'a [Terminal],
-) -> Result<(Command, &'a [Terminal]), ReadError>
-    requires { tokens.now ≡ Terminal.Word word ∷ rest.now }
-    ensures read { IfOk result (λ r. result_from word rest.now ≡ Some (command_tree r.0, r.1.now)) }
-    ensures refused { IfErr result (λ e. Refuses e (result_from word rest.now ≡ None)) }
+/// The command that a formula is where it is one alone, else the formula by itself.
+#[tactic(auto, using(qe_syntax::proofs::TreeEquations::wholes))]
+fn command_of(formula: Formula) -> Command
+    ensures { whole_command result ≡ result_of (whole_formula formula) }
 {
-    match word {
-        Word::Nnf => {
-            let (prime, end) = formula(alloc, PRIME, rest)?;
-            Ok((Command::Nnf(prime), end))
-        }
-        Word::Pnf => {
-            let (prime, end) = formula(alloc, PRIME, rest)?;
-            Ok((Command::Pnf(prime), end))
-        }
-        Word::Dnf => {
-            let (prime, end) = formula(alloc, PRIME, rest)?;
-            Ok((Command::Dnf(prime), end))
-        }
-        Word::Cnf => {
-            let (prime, end) = formula(alloc, PRIME, rest)?;
-            Ok((Command::Cnf(prime), end))
-        }
-        Word::Simpl => {
-            let (formula, given, end) = argument(alloc, rest)?;
-            Ok((Command::Simpl(formula, Formulas::of(given)), end))
-        }
-        Word::Qe => {
-            let (formula, given, end) = argument(alloc, rest)?;
-            Ok((Command::Qe(formula, Formulas::of(given)), end))
-        }
-        _ => {
-            let (formula, end) = formula(alloc, FORMULA, tokens)?;
-            Ok((Command::Echo(formula), end))
-        }
+    match formula.into_command() {
+        Ok(command) => Command::of_inner(command),
+        Err(formula) => Command::Echo(formula),
     }
 }
