@@ -1,2 +1,3 @@
+pub mod PlainFormulas
 pub mod Takings
 pub mod FirstNames

@@ -19,24 +19,26 @@ use redlog_reader::read_statement;
 use std::alloc::Global;
 
 /// The tree that a maker of plain trees keeps of the statement's formula.
+#[tactic(auto, using(qe_syntax::proofs::WritableLemmas::writable, crate::proofs::PlainFormulas::no_places))]
 pub(crate) fn plain_tree(alloc: Global, context: Context, statement: &str) -> Option<String> {
     let statement = read_statement(alloc, statement.as_bytes()).ok()?;
     let formula = formula_of(&statement)?;
     let mut names = Names::new(alloc);
     let mut maker = PlainMaker::new(alloc);
     let bound = Bindings::new(alloc);
-    let id = linearise(alloc, formula, &bound, context, &mut names, &mut maker).ok()?;
+    let id = linearise(alloc, formula, &bound, &[], context, &mut names, &mut maker).ok()?;
     tree_text(alloc, maker.plain(id)).ok()
 }
 
 /// The id of the statement's formula over the ordered fields, in the store.
+#[tactic(auto, using(qe_syntax::proofs::WritableLemmas::writable, crate::proofs::PlainFormulas::no_places))]
 fn id_of(alloc: Global, statement: &str, names: &mut Names, store: &mut Store) -> Option<FormulaId>
     ensures { IfSome result (IsId store.new) }
 {
     let statement = read_statement(alloc, statement.as_bytes()).ok()?;
     let formula = formula_of(&statement)?;
     let bound = Bindings::new(alloc);
-    linearise(alloc, formula, &bound, Context::Fields, names, store).ok()
+    linearise(alloc, formula, &bound, &[], Context::Fields, names, store).ok()
 }
 
 /// Whether two statements' formulas have one id in a store.

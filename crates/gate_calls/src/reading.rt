@@ -8,7 +8,7 @@ ghost use Rattle.elimination_reference.specs.Theorems.{IsTidy};
 ghost use Rattle.formula_tree.specs.Trees.{tree_of};
 ghost use Rattle.formula_store.specs.Nodes.{tree, IsId};
 ghost use Rattle.nnf_trees.specs.Nnfs.{HasModulus};
-ghost use Rattle.qe_syntax.specs.Proper.{IsProperFormula};
+ghost use Rattle.qe_syntax.specs.Writable.{IsWritableFormula};
 ghost use Rattle.statement_syntax.specs.Writable.{IsWritable};
 ghost use Rattle.statement_syntax.specs.CodeTrees.{statement_tree};
 ghost use Rattle.qe_syntax.specs.CodeTrees.{formula_tree};
@@ -26,12 +26,14 @@ use std::alloc::Global;
 /// The limit of nodes of each call.
 pub(crate) const LIMIT: u64 = 1_000_000;
 
-/// The formula that the statement asks for as it is.
-#[tactic(auto, using(qe_syntax::proofs::WritableLemmas::writable))]
+/// The formula that the statement asks for as it is, if no command stands inside it.
 pub(crate) fn formula_of(statement: &Statement) -> Option<&Formula>
     requires { IsWritable (statement_tree statement.now) }
-    ensures { IfSome result (λ f. IsProperFormula (formula_tree f.now)) }
+    ensures { IfSome result (λ f. IsWritableFormula (formula_tree f.now)) }
 {
+    if statement.has_inner_command() {
+        return None;
+    }
     let Action::Say(command) = &statement.action else {
         return None;
     };
@@ -53,7 +55,7 @@ pub(crate) fn form_of(alloc: Global, context: Context, statement: &Statement) ->
 
 /// The tree of the negation normal form of the formula.
 fn resolved_form(alloc: Global, context: Context, formula: &Formula) -> Option<Tree>
-    requires { IsProperFormula (formula_tree formula.now) }
+    requires { IsWritableFormula (formula_tree formula.now) }
     ensures moduli { IfSome result (λ t. Every HasModulus (tree_of t)) }
     ensures normal { IfSome result (λ t. Every (IsNormal (context_of context)) (tree_of t)) }
 {
@@ -63,19 +65,20 @@ fn resolved_form(alloc: Global, context: Context, formula: &Formula) -> Option<T
 }
 
 /// The id of the formula, whose names have numbers in the order of the text.
+#[tactic(auto, using(qe_syntax::proofs::WritableLemmas::writable, crate::proofs::PlainFormulas::no_places))]
 fn resolved_id(
     alloc: Global,
     context: Context,
     formula: &Formula,
     store: &mut Store,
 ) -> Option<FormulaId>
-    requires { IsProperFormula (formula_tree formula.now) }
+    requires { IsWritableFormula (formula_tree formula.now) }
     ensures is { IfSome result (IsId store.new) }
     ensures normal { IfSome result (λ id. Every (IsNormal (context_of context)) (tree store.new id)) }
 {
     let mut names = Names::new(alloc);
     let bound = Bindings::new(alloc);
-    match linearise(alloc, formula, &bound, context, &mut names, store) {
+    match linearise(alloc, formula, &bound, &[], context, &mut names, store) {
         Ok(id) => Some(id),
         Err(_) => None,
     }

@@ -39,7 +39,7 @@ use Rattle.qe_syntax.specs.Valued.{IsIn}
 use Rattle.qe_syntax.specs.Writable.{IsWritableTerm, IsWritableFormula, AreWritableFormulas}
 use Rattle.qe_syntax.proofs.ValueLaw.{value_proper}
 use Rattle.statement_syntax.specs.ConstraintLists.{AreWeakConstraints}
-use Rattle.redlog_reader.specs.Grammar.{quantified_names}
+use Rattle.statement_syntax.specs.QuantifiedNames.{quantified_names}
 use Rattle.resolved_formulas.specs.FractionRule.{◌>>=◌}
 use Rattle.resolved_formulas.specs.RationalForms.{RationalForm, formed, formed_difference, sum_of_forms, opposite_form}
 use Rattle.resolved_formulas.specs.ResolvedLaws.{Numbered, value_at}

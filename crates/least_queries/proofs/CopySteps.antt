@@ -12,7 +12,7 @@ use Rattle.qe_syntax.specs.declared.tree.Term as code
 use Rattle.qe_syntax.specs.Trees.{Compare, Cong, Ncong, Bound, FormulaTree}
 use Rattle.qe_syntax.specs.CodeTrees.{formula_tree}
 use Rattle.statement_syntax.specs.Constraints.{bounds, is_weak, is_constraint, is_weak_constraint}
-use Rattle.redlog_reader.proofs.Constrained.{unconstrained}
+use Rattle.statement_syntax.proofs.Constrained.{unconstrained}
 
 bounds_weak : (r : Relation) → is_weak r ≡ true → bounds r ≡ true
 bounds_weak Equal h = refl

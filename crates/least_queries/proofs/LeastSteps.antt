@@ -21,7 +21,7 @@ use Rattle.qe_syntax.specs.Writable.{IsWritableTerm, AreWritableFormulas}
 use Rattle.qe_syntax.proofs.EntryLists.{each_push}
 use Rattle.statement_syntax.specs.ConstraintLists.{AreWeakConstraints}
 use Rattle.statement_syntax.specs.Statements.{Least}
-use Rattle.redlog_reader.specs.Grammar.{quantified_names}
+use Rattle.statement_syntax.specs.QuantifiedNames.{quantified_names}
 use Rattle.redlog_printer.specs.Writing.{text_limit}
 use Rattle.problem_reading.proofs.FromSharedForms.{length_3, AreShort, variables_short, fraction_short, point_short, as_many}
 use Rattle.formula_tree.specs.Names.{with_name, place}

@@ -1,3 +1,4 @@
+pub mod PlainFormulas
 pub mod CopySteps
 pub mod ProblemSteps
 pub mod ProblemNames

@@ -13,7 +13,7 @@ use Rattle.qe_syntax.specs.Trees.{TermTree, FormulaTree, FormulaTrees, Named, Co
 use Rattle.qe_syntax.specs.Value.{same_name}
 use Rattle.qe_syntax.specs.Valued.{IsIn}
 use Rattle.qe_syntax.specs.Writable.{IsWritableTerm, AreWritableFormulas}
-use Rattle.redlog_reader.specs.Grammar.{quantified_names}
+use Rattle.statement_syntax.specs.QuantifiedNames.{quantified_names}
 use Rattle.formula_tree.specs.Names.{with_name, place}
 use Rattle.resolved_formulas.specs.Resolving.{variables_of, formula_variables, all_variables}
 use Rattle.resolved_formulas.specs.NamesAfter.{names_after}

@@ -11,7 +11,7 @@ use Rattle.qe_syntax.specs.CodeTrees.{formula_tree}
 use Rattle.qe_syntax.specs.Proper.{IsProperFormula, AreProperFormulas}
 use Rattle.qe_syntax.proofs.WritableLemmas.{writable_term, writable_formulas}
 use Rattle.formula_meaning.specs.declared.quantifier.Quantifier.TheVariants.{Exists}
-use Rattle.redlog_reader.specs.Grammar.{quantified_names}
+use Rattle.statement_syntax.specs.QuantifiedNames.{quantified_names}
 use Rattle.qe_syntax.specs.Writable.{IsWritableTerm, AreWritableFormulas}
 use Rattle.statement_syntax.specs.Constraints.{is_weak_constraint}
 use Rattle.statement_syntax.specs.ConstraintLists.{AreWeakConstraints}

@@ -22,7 +22,7 @@ use Rattle.qe_syntax.specs.Trees.{TermTree, WrittenAtom, FormulaTree, FormulaTre
 use Rattle.qe_syntax.specs.Value.{relation_of}
 use Rattle.statement_syntax.specs.Constraints.{is_weak, is_weak_constraint}
 use Rattle.statement_syntax.specs.ConstraintLists.{AreWeakConstraints}
-use Rattle.redlog_reader.specs.Grammar.{quantified_names}
+use Rattle.statement_syntax.specs.QuantifiedNames.{quantified_names}
 use Rattle.resolved_formulas.specs.RationalForms.{RationalForm, Missing, formed_difference}
 use Rattle.resolved_formulas.specs.Resolving.{compared, resolved_atom}
 use Rattle.formula_tree.specs.Names.{place}

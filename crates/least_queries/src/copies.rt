@@ -2,7 +2,8 @@
 
 ghost use Rattle.std.specs.Prelude.{◌≡◌, true, IfOk, OnOk};
 ghost use Rattle.std.specs.List.{fold};
-ghost use Rattle.qe_syntax.specs.CodeTrees.{term_tree, term_trees, formula_tree};
+ghost use Rattle.qe_syntax.specs.Holes.{alone};
+ghost use Rattle.qe_syntax.specs.CodeTrees.{term_tree, term_trees, formula_tree, inner_of};
 ghost use Rattle.statement_syntax.specs.Constraints.{is_weak_constraint};
 ghost use Rattle.formula_tree.specs.Names.{with_name};
 ghost use Rattle.resolved_formulas.specs.Resolving.{variables_of, variables_in, formula_variables};
@@ -20,6 +21,7 @@ pub(crate) fn copied_comparison(
 ) -> Result<Formula, AllocError>
     requires { is_weak_constraint (formula_tree formula.now) ≡ true }
     ensures same { IfOk result (λ f. formula_tree f ≡ formula_tree formula.now) }
+    ensures plain { IfOk result (λ f. inner_of f ≡ alone) }
     ensures numbered { OnOk result (names.new ≡ fold with_name names.old (formula_variables (formula_tree formula.now))) }
 {
     let Formula::Compare(relation, left, right) = formula else {

@@ -3,7 +3,8 @@
 ghost use Rattle.std.specs.Prelude.{◌≡◌, ◌≤◌, ◌++◌, [], ◌∷◌, None, IfOk, IfErr, OnOk, OnErr, map};
 ghost use Rattle.qe_syntax.specs.Proper.{IsProperFormula};
 ghost use Rattle.qe_syntax.specs.Trees.{formulas_of};
-ghost use Rattle.qe_syntax.specs.CodeTrees.{term_tree, formula_tree};
+ghost use Rattle.qe_syntax.specs.Holes.{alone};
+ghost use Rattle.qe_syntax.specs.CodeTrees.{term_tree, formula_tree, inner_of};
 ghost use Rattle.qe_syntax.specs.Writable.{IsWritableTerm, AreWritableFormulas};
 ghost use Rattle.statement_syntax.specs.ConstraintLists.{AreWeakConstraints};
 ghost use Rattle.statement_syntax.specs.Statements.{Least as LeastOf};
@@ -62,6 +63,7 @@ pub fn answer_least<R: Threads + Sync, G: Gate + Sync>(
 /// with it: in reading, or the theory.
 fn read(state: &mut SessionState, problem: &Formula) -> Result<FormulaId, StatementError>
     requires proper { IsProperFormula (formula_tree problem.now) }
+    requires plain { inner_of problem.now ≡ alone }
     requires ids { AreIds (IsId state.old.store) state.old.bindings }
     ensures read { IfOk result (IsProblemIn state.old (formula_tree problem.now) state.new) }
     ensures unread { IfErr result (IsProblemUnread (state_of state.old) (formula_tree problem.now)) }
@@ -71,6 +73,7 @@ fn read(state: &mut SessionState, problem: &Formula) -> Result<FormulaId, Statem
         state.alloc,
         problem,
         &state.bindings,
+        &[],
         state.context,
         &mut state.names,
         &mut state.store,

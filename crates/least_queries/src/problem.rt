@@ -5,11 +5,12 @@ ghost use Rattle.std.specs.List.{AllByRecursion, fold};
 ghost use Rattle.formula_meaning.specs.declared.quantifier.Quantifier.TheVariants.{Exists};
 ghost use Rattle.qe_syntax.specs.Names.{IsVariable};
 ghost use Rattle.qe_syntax.specs.Trees.{FormulaTree, formulas_of};
-ghost use Rattle.qe_syntax.specs.CodeTrees.{term_tree, formula_tree};
+ghost use Rattle.qe_syntax.specs.Holes.{alone};
+ghost use Rattle.qe_syntax.specs.CodeTrees.{term_tree, formula_tree, inner_of};
 ghost use Rattle.qe_syntax.specs.Writable.{IsWritableTerm, AreWritableFormulas};
 ghost use Rattle.statement_syntax.specs.Constraints.{is_weak_constraint};
 ghost use Rattle.statement_syntax.specs.ConstraintLists.{AreWeakConstraints};
-ghost use Rattle.redlog_reader.specs.Grammar.{quantified_names};
+ghost use Rattle.statement_syntax.specs.QuantifiedNames.{quantified_names};
 ghost use Rattle.formula_tree.specs.Names.{with_name};
 ghost use Rattle.resolved_formulas.specs.Resolving.{all_variables};
 ghost use Rattle.problem_reading.specs.FromSessionMeaning.{target_name as name_of_target, together as all_together, problem_of};
@@ -36,7 +37,8 @@ pub(crate) fn problem(
     requires proper { AreWritableFormulas (formulas_of (map formula_tree written.now)) }
     requires weak { AreWeakConstraints (formulas_of (map formula_tree written.now)) }
     requires target { IsWritableTerm (term_tree target.now) }
-    ensures { IfOk result (λ f. formula_tree f ≡ problem_of (formulas_of (map formula_tree written.now)) (term_tree target.now)) }
+    ensures tree { IfOk result (λ f. formula_tree f ≡ problem_of (formulas_of (map formula_tree written.now)) (term_tree target.now)) }
+    ensures plain { IfOk result (λ f. inner_of f ≡ alone) }
 {
     let mut names = Names::new(alloc);
     let mut members = copies(alloc, written, &mut names)?;
@@ -51,6 +53,7 @@ pub(crate) fn problem(
 fn copies(alloc: Global, written: &[Formula], names: &mut Names) -> Result<Vec<Formula>, AllocError>
     requires { AllByRecursion (λ f. is_weak_constraint (formula_tree f) ≡ true) written.now }
     ensures same { IfOk result (λ v. map formula_tree v.items ≡ map formula_tree written.now) }
+    ensures plain { IfOk result (λ v. AllByRecursion (λ f. inner_of f ≡ alone) v.items) }
     ensures numbered { OnOk result (names.new ≡ fold with_name names.old (all_variables (formulas_of (map formula_tree written.now)))) }
 {
     let mut copies = Vec::new(alloc);
@@ -62,8 +65,10 @@ fn copies(alloc: Global, written: &[Formula], names: &mut Names) -> Result<Vec<F
 
 /// The conjunction of the members, or the member where there is one alone.
 fn together(mut members: Vec<Formula>) -> Formula
-    requires { 0 < length members.items }
-    ensures { (f : FormulaTree) (fs : List FormulaTree) → map formula_tree members.items ≡ f ∷ fs → formula_tree result ≡ all_together f (formulas_of fs) }
+    requires some { 0 < length members.items }
+    requires plain { AllByRecursion (λ f. inner_of f ≡ alone) members.items }
+    ensures tree { (f : FormulaTree) (fs : List FormulaTree) → map formula_tree members.items ≡ f ∷ fs → formula_tree result ≡ all_together f (formulas_of fs) }
+    ensures plain { inner_of result ≡ alone }
 {
     if members.len() > 1 {
         return Formula::And(Formulas::of(members));
@@ -76,8 +81,10 @@ fn together(mut members: Vec<Formula>) -> Formula
 
 /// The formula behind a quantifier for each name, the first one outermost.
 fn with_quantifiers(alloc: Global, names: &Names, formula: Formula) -> Result<Formula, AllocError>
-    requires { AllByRecursion IsVariable names.now }
-    ensures { IfOk result (λ f. formula_tree f ≡ quantified_names Exists names.now (formula_tree formula)) }
+    requires variables { AllByRecursion IsVariable names.now }
+    requires plain { inner_of formula ≡ alone }
+    ensures tree { IfOk result (λ f. formula_tree f ≡ quantified_names Exists names.now (formula_tree formula)) }
+    ensures plain { IfOk result (λ f. inner_of f ≡ alone) }
 {
     let mut quantified = formula;
     for number in (0..names.count()).rev() {

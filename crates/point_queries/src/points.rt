@@ -165,7 +165,8 @@ pub fn check_valued(
     formula: &Formula,
     entries: &[PointEntry],
 ) -> Result<(), StatementError>
-    requires { AreIds (IsId state.now.store) state.now.bindings }
+    requires proper { IsWritableFormula (formula_tree formula.now) }
+    requires ids { AreIds (IsId state.now.store) state.now.bindings }
     ensures valued { OnOk result (IsValued (state_of state.now) (formula_tree formula.now) entries.now) }
     ensures fault { IfErr result (ValuedStop (state_of state.now) (formula_tree formula.now) entries.now) }
 {

@@ -1,3 +1,4 @@
+pub mod PlainFormulas
 pub mod PartLemmas
 pub mod CauseLemmas
 pub mod ReadTruth

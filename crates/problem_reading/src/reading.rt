@@ -34,7 +34,7 @@ pub fn resolved(state: &mut SessionState, formula: &Formula) -> Result<FormulaId
 }
 
 /// The resolved formula, or the first cause why there is none.
-#[tactic(auto, using(qe_syntax::proofs::WritableLemmas::writable))]
+#[tactic(auto, using(qe_syntax::proofs::WritableLemmas::writable, crate::proofs::PlainFormulas::no_places))]
 pub fn resolved_part(state: &mut SessionState, formula: &Formula) -> Result<FormulaId, StaticError>
     requires proper { IsWritableFormula (formula_tree formula.now) }
     requires ids { AreIds (IsId state.old.store) state.old.bindings }
@@ -48,6 +48,7 @@ pub fn resolved_part(state: &mut SessionState, formula: &Formula) -> Result<Form
         state.alloc,
         formula,
         &state.bindings,
+        &[],
         state.context,
         &mut state.names,
         &mut state.store,

@@ -1,5 +1,5 @@
 -- The statement `true` has no cause of a refusal.
-use Rattle.std.proofs.Common.{◌≡◌, ⊎_elim, ℕ, Bool, length, ap, arith}
+use Rattle.std.proofs.Common.{◌≡◌, ⊎_elim, ℕ, Bool, true, false, length, ap, arith}
 use Rattle.std.specs.Prelude.{None}
 use Rattle.formula_meaning.specs.Context.{Context, Fields, Integers}
 use Rattle.formula_meaning.specs.Formula.{Yes}
@@ -59,4 +59,4 @@ module _ (s : State) (limit : ℕ) (printed : Bool) where
 pub truth_is_never_refused : TruthIsNeverRefused
 truth_is_never_refused printed s limit e other r =
     let z = numbered of_true s in
-    ⊎_elim (no_cause z limit printed e) (no_other z limit printed e) r.applies
+    ⊎_elim (λ k. ⊎_elim (no_cause z limit printed e) (no_other z limit printed e) k.1.applies) (λ k. let none : false ≡ true = k.0 in absurd (cc)) r

@@ -1,9 +1,17 @@
 -- What a formula command answers is the answer of its statement.
 use Rattle.formula_meaning.specs.Tree.{Tree}
-use Rattle.std.proofs.Common.{⊎_elim, ap, ◌≡◌, ℕ, zero, suc, ◌<◌, ◌≤◌, arith, List, Bool, Some, None, sym, subst, refl}
+use Rattle.std.proofs.Common.{⊎_elim, ap, ◌≡◌, ℕ, zero, suc, ◌<◌, ◌≤◌, arith, List, Bool, true, false, Some, None, Option, inl, inr, sym, subst, refl}
 use Rattle.std.specs.Prelude.{Result, Ok, Err, IfOk, OnOk, IfErr, OnErr}
-use Rattle.statement_syntax.specs.Statements.{CommandTree, ActionTree, Empty, Ignored, Finish, Choose, Say, Assign, Assume, Retract, StatementTree}
-use Rattle.redlog_reader.specs.Grammar.{SpellsResult, echo, nnf, pnf, dnf, cnf, simpl, qe, SpellsAction, assign, SpellsStatement, nothing, acting}
+use Rattle.statement_syntax.specs.Statements.{CommandTree, ActionTree, Empty, Ignored, Finish, Choose, Say, Assign, Assume, Retract, StatementTree, Echo}
+use Rattle.statement_syntax.specs.declared.statement.Statement as written
+use Rattle.statement_syntax.specs.CodeTrees.{statement_tree}
+use Rattle.statement_syntax.specs.PlainStatements.{plain_statement}
+use Rattle.statement_syntax.specs.Writable.{IsWritable, IsWritableAction}
+use Rattle.statement_syntax.proofs.Plain.{plain_statement_is}
+use Rattle.statement_syntax.specs.Inner.{WithInner, about, command_in, command_of}
+use Rattle.qe_syntax.specs.Holes.{InnerTree, Nest, Nests, nest, alone, beside, command_alone, is_some_command}
+use Rattle.qe_syntax.specs.Holes as inside
+use Rattle.redlog_reader.specs.Grammar.{Written, SpellsResult, resulting, SpellsAction, assign, SpellsStatement, nothing, acting}
 use Rattle.redlog_tokens.specs.declared.terminal.Terminal.{Terminal}
 use Rattle.redlog_reader.specs.Statement.{Spells}
 use Rattle.formula_meaning.specs.Tree.{tree_distinct}
@@ -21,16 +29,22 @@ use Rattle.session_meaning.specs.declared.line.StatementError.TheVariants as err
 
 -- ---- statements bind formulas
 
-result_gives : {ts rest : List Terminal} {c : CommandTree} → SpellsResult ts c rest → GivesFormula (meaning c).answer
-result_gives (echo f) = tt
-result_gives (nnf f) = tt
-result_gives (pnf f) = tt
-result_gives (dnf f) = tt
-result_gives (cnf f) = tt
-result_gives (simpl a) = tt
-result_gives (qe a) = tt
+inner_gives : (c : InnerTree) → GivesFormula (meaning (command_of c)).answer
+inner_gives (inside.Nnf f) = tt
+inner_gives (inside.Pnf f) = tt
+inner_gives (inside.Dnf f) = tt
+inner_gives (inside.Cnf f) = tt
+inner_gives (inside.Simpl f given) = tt
+inner_gives (inside.Qe f given) = tt
 
-action_binds : {ts rest : List Terminal} {a : ActionTree} → SpellsAction ts a rest → BindsFormula a
+alone_gives : (f : Written) (o : Option Nest) → GivesFormula (meaning (elim o as (λ p. WithInner CommandTree) [ None ↦ about Echo f | Some n ↦ command_in n ]).tree).answer
+alone_gives f None = tt
+alone_gives f (Some (nest c ns)) = inner_gives c
+
+result_gives : {ts rest : List Terminal} {c : WithInner CommandTree} → SpellsResult ts c rest → GivesFormula (meaning c.tree).answer
+result_gives (resulting {f = f} p e) = subst (λ (c : WithInner CommandTree). GivesFormula (meaning c.tree).answer) (sym e) (alone_gives f (command_alone f.tree f.inner))
+
+action_binds : {ts rest : List Terminal} {a : WithInner ActionTree} → SpellsAction ts a rest → BindsFormula a.tree
 action_binds (assign r) = result_gives r
 action_binds _ = tt
 
@@ -127,9 +141,9 @@ no_word e none s limit printed (Assign x c) h = none (meaning c) (numbered (mean
 no_word e none s limit printed (Assume given) h = none (assumption_meaning given) (numbered (assumption_meaning given) s) limit (use_of None printed) h
 no_word e none s limit printed Retract h = h
 
-module _ (s next : State) (limit : ℕ) (piece : List ℕ) (t : StatementTree) (spelled : Spells piece t) where
+module _ (s next : State) (limit : ℕ) (piece : List ℕ) (t : StatementTree) (spelled : Spells piece t) (plain : t.inner ≡ alone) where
   spelled_refused : (e : StatementError) → RefusesAction s limit t.printed t.action e → SpellsRefused s limit piece e
-  spelled_refused e h = record { statement = t; spelled = spelled; refused = h }
+  spelled_refused e h = record { statement = t; spelled = spelled; refused = inl (plain, h) }
 
   reply_to_stop : (e : StatementError) → next ≡ s → IsStopped s limit t e → Reply s limit piece (Err e) next
   reply_to_stop error.Memory p h = tt
@@ -154,5 +168,24 @@ module _ (s next : State) (limit : ℕ) (piece : List ℕ) (t : StatementTree) (
   reply_to_stop error.Text p h = (p, spelled_refused error.Text (h (λ q. absurd (cc (q)))))
 
   pub reply_to : (r : Result Line StatementError) → IfOk r (λ answer. Answers s limit t.printed t.action answer next) → IfErr r (IsStopped s limit t) → OnErr r (next ≡ s) → Reply s limit piece r next
-  reply_to (Ok answer) a b k = record { statement = t; spelled = spelled; answered = a }
+  reply_to (Ok answer) a b k = record { statement = t; spelled = spelled; plain = plain; answered = a }
   reply_to (Err e) a b k = reply_to_stop e k b
+
+-- a statement inside which a command stands
+pub reply_to_inner : (s : State) (limit : ℕ) (piece : List ℕ) (t : StatementTree) → Spells piece t → is_some_command t.inner ≡ true → Reply s limit piece (Err error.Syntax) s
+reply_to_inner s limit piece t spelled some = (refl, inr (record { statement = t; spelled = spelled; refused = inr (some, refl) }))
+
+none_alone : (ns : Nests) → is_some_command ns ≡ false → ns ≡ alone
+none_alone alone e = refl
+none_alone (beside n ns) e = absurd (let no : ⊥ = cc in no)
+
+-- a statement of the code inside which none stands is what it is without names of answers
+module _ (t : written.Statement) (none : is_some_command (statement_tree t).inner ≡ false) where
+  pub same : statement_tree t ≡ plain_statement t
+  same = plain_statement_is t (none_alone (statement_tree t).inner none)
+
+  pub spelled_plainly : (piece : List ℕ) → Spells piece (statement_tree t) → Spells piece (plain_statement t)
+  spelled_plainly piece h = subst (Spells piece) same h
+
+  pub writable_plainly : IsWritable (statement_tree t) → IsWritableAction (plain_statement t).action
+  writable_plainly h = let w : IsWritable (plain_statement t) = subst IsWritable same h in w.action

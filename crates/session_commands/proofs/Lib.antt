@@ -4,6 +4,7 @@ mod StandingLemmas
 pub mod NewNameLemmas
 pub mod GivenLemmas
 pub mod GivenSteps
+pub mod ItemTrees
 pub mod AnswerLemmas
 pub mod Accepted
 pub mod NamesAfter

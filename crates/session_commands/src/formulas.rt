@@ -11,7 +11,7 @@ ghost use Rattle.formula_meaning.specs.Members.{HasTwoMembers};
 ghost use Rattle.redlog_printer.specs.Text.{tree_text};
 ghost use Rattle.redlog_printer.specs.Writing.{text_limit};
 ghost use Rattle.qe_syntax.specs.Writable.{IsWritableFormula, AreWritableFormulas};
-ghost use Rattle.statement_syntax.specs.CodeTrees.{command_tree};
+ghost use Rattle.statement_syntax.specs.PlainStatements.{plain_command};
 ghost use Rattle.qe_syntax.specs.Trees.{formulas_of};
 ghost use Rattle.qe_syntax.specs.CodeTrees.{formula_tree};
 ghost use Rattle.point_queries.specs.FromCommandTools.{use_of, Refuses, IsFormulaAnswer, IsLongText, LineFault};
@@ -88,6 +88,7 @@ impl<'a> FormCommand<'a> {
     }
 
     /// The assumptions.
+    #[tactic(auto, using(crate::proofs::ItemTrees::item_trees))]
     fn assumptions(self) -> &'a [Formula]
         ensures { formulas_of (map formula_tree result.now) ≡ given_trees self.entry }
     {
@@ -103,9 +104,9 @@ impl<'a> FormCommand<'a> {
 
 /// What formula the command asks for, and of which one; `None` of a query.
 pub(crate) fn form_command_of(command: &Command) -> Option<(FormCommand<'_>, &Formula)>
-    ensures asked { IfSome result (λ r. command_tree command.now ≡ command_of r.0 (formula_tree r.1.now)) }
+    ensures asked { IfSome result (λ r. plain_command command.now ≡ command_of r.0 (formula_tree r.1.now)) }
     ensures first { IfSome result (λ r. IsFirstAttempt r.0) }
-    ensures query { IfNone result (¬ (GivesFormula (meaning (command_tree command.now)).answer)) }
+    ensures query { IfNone result (¬ (GivesFormula (meaning (plain_command command.now)).answer)) }
 {
     match command {
         Command::Echo(formula) => Some((FormCommand::Resolved, formula)),
@@ -314,8 +315,10 @@ fn read_wanted(
 }
 
 /// Whether a quantifier stands in a formula that is asked for its disjunctive or conjunctive form.
+#[tactic(auto, using(session_meaning::proofs::FromFreeNames::written_whole))]
 fn has_unwanted_quantifier(state: &SessionState, wanted: FormCommand<'_>, formula: &Formula) -> bool
-    requires { AreIds (IsId state.now.store) state.now.bindings }
+    requires proper { IsWritableFormula (formula_tree formula.now) }
+    requires ids { AreIds (IsId state.now.store) state.now.bindings }
     ensures { IsTrue result ↔ HasUnwantedQuantifier (state_of state.now) wanted.entry (formula_tree formula.now) }
 {
     match wanted {

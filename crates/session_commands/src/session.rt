@@ -1,6 +1,6 @@
 ghost use Rattle.std.specs.Prelude.{◌≡◌, ◌≤◌, Some, None, IfOk, IfErr, OnOk, OnErr};
-ghost use Rattle.statement_syntax.specs.CodeTrees.{statement_tree, command_tree};
-ghost use Rattle.statement_syntax.specs.Writable.{IsWritable, IsWritableCommand};
+ghost use Rattle.statement_syntax.specs.PlainStatements.{plain_statement, plain_command};
+ghost use Rattle.statement_syntax.specs.Writable.{IsWritableAction, IsWritableCommand};
 ghost use Rattle.point_queries.specs.FromSessionState.{state_of, IsSessionState, GrowsState};
 ghost use Rattle.point_queries.specs.FromCommandTools.{use_of, Refuses, IsStopped, IsFormulaAnswer, BindsFormula, read_refusal};
 ghost use Rattle.session_meaning.specs.Meaning.{meaning, numbered};
@@ -91,7 +91,7 @@ impl Session {
     }
 }
 
-/// Reads a statement and answers it.
+/// Reads a statement and answers it. One inside which a command stands is not answered.
 fn reply_to<R: Threads + Sync, G: Gate + Sync>(
     workshop: &Workshop<'_, R, G>,
     state: &mut SessionState,
@@ -103,7 +103,12 @@ fn reply_to<R: Threads + Sync, G: Gate + Sync>(
     ensures reply { Reply (state_of state.old) workshop.now.limits.nodes bytes.now result (state_of state.new) }
 {
     match read_statement(state.alloc, bytes) {
-        Ok(statement) => answer(workshop, state, &statement),
+        Ok(statement) => {
+            if statement.has_inner_command() {
+                return Err(StatementError::Syntax);
+            }
+            answer(workshop, state, &statement)
+        }
         Err(error) => Err(refusal_of(error)),
     }
 }
@@ -128,12 +133,12 @@ fn answer<R: Threads + Sync, G: Gate + Sync>(
     statement: &Statement,
 ) -> Result<Line, StatementError>
     requires workers { 1 ≤ workshop.now.limits.workers }
-    requires proper { IsWritable (statement_tree statement.now) }
-    requires formula { BindsFormula (statement_tree statement.now).action }
+    requires proper { IsWritableAction (plain_statement statement.now).action }
+    requires formula { BindsFormula (plain_statement statement.now).action }
     requires session { IsSessionState state.old }
     ensures session { IsSessionState state.new }
-    ensures answer { IfOk result (λ line. Answers (state_of state.old) workshop.now.limits.nodes statement.now.printed (statement_tree statement.now).action line (state_of state.new)) }
-    ensures refusal { IfErr result (IsStopped (state_of state.old) workshop.now.limits.nodes (statement_tree statement.now)) }
+    ensures answer { IfOk result (λ line. Answers (state_of state.old) workshop.now.limits.nodes statement.now.printed (plain_statement statement.now).action line (state_of state.new)) }
+    ensures refusal { IfErr result (IsStopped (state_of state.old) workshop.now.limits.nodes (plain_statement statement.now)) }
     ensures unchanged { OnErr result (state_of state.new ≡ state_of state.old) }
 {
     let count = state.names.count();
@@ -147,18 +152,19 @@ fn answer<R: Threads + Sync, G: Gate + Sync>(
 }
 
 /// Does what the statement says. After an `Err` the names may have grown.
+#[tactic(auto, using(crate::proofs::ItemTrees::item_trees))]
 fn act<R: Threads + Sync, G: Gate + Sync>(
     workshop: &Workshop<'_, R, G>,
     state: &mut SessionState,
     statement: &Statement,
 ) -> Result<Line, StatementError>
     requires workers { 1 ≤ workshop.now.limits.workers }
-    requires proper { IsWritable (statement_tree statement.now) }
-    requires formula { BindsFormula (statement_tree statement.now).action }
+    requires proper { IsWritableAction (plain_statement statement.now).action }
+    requires formula { BindsFormula (plain_statement statement.now).action }
     requires session { IsSessionState state.old }
     ensures session { OnOk result (IsSessionState state.new) }
-    ensures answer { IfOk result (λ line. Answers (state_of state.old) workshop.now.limits.nodes statement.now.printed (statement_tree statement.now).action line (state_of state.new)) }
-    ensures refusal { IfErr result (IsStopped (state_of state.old) workshop.now.limits.nodes (statement_tree statement.now)) }
+    ensures answer { IfOk result (λ line. Answers (state_of state.old) workshop.now.limits.nodes statement.now.printed (plain_statement statement.now).action line (state_of state.new)) }
+    ensures refusal { IfErr result (IsStopped (state_of state.old) workshop.now.limits.nodes (plain_statement statement.now)) }
     ensures grown { OnErr result (GrowsState state.old state.new) }
 {
     match &statement.action {
@@ -193,6 +199,7 @@ fn choose(state: &mut SessionState, setting: Setting, printed: bool) -> Result<L
 }
 
 /// Answers a command. After an `Err` the names may have grown.
+#[tactic(auto, using(crate::proofs::ItemTrees::item_trees))]
 fn say<R: Threads + Sync, G: Gate + Sync>(
     workshop: &Workshop<'_, R, G>,
     state: &mut SessionState,
@@ -200,11 +207,11 @@ fn say<R: Threads + Sync, G: Gate + Sync>(
     printed: bool,
 ) -> Result<Line, StatementError>
     requires workers { 1 ≤ workshop.now.limits.workers }
-    requires proper { IsWritableCommand (command_tree command.now) }
+    requires proper { IsWritableCommand (plain_command command.now) }
     requires session { IsSessionState state.old }
     ensures session { OnOk result (IsSessionState state.new) }
-    ensures answer { IfOk result (λ line. AnswersSaid (meaning (command_tree command.now)) (numbered (meaning (command_tree command.now)) (state_of state.old)) workshop.now.limits.nodes printed line (state_of state.new)) }
-    ensures refusal { IfErr result (Refuses (numbered (meaning (command_tree command.now)) (state_of state.old)) workshop.now.limits.nodes (use_of None printed) (command_tree command.now)) }
+    ensures answer { IfOk result (λ line. AnswersSaid (meaning (plain_command command.now)) (numbered (meaning (plain_command command.now)) (state_of state.old)) workshop.now.limits.nodes printed line (state_of state.new)) }
+    ensures refusal { IfErr result (Refuses (numbered (meaning (plain_command command.now)) (state_of state.old)) workshop.now.limits.nodes (use_of None printed) (plain_command command.now)) }
     ensures grown { OnErr result (GrowsState state.old state.new) }
 {
     match command {
@@ -256,12 +263,12 @@ fn answer_form_command<R: Threads + Sync, G: Gate + Sync>(
     printed: bool,
 ) -> Result<Line, StatementError>
     requires workers { 1 ≤ workshop.now.limits.workers }
-    requires proper { IsWritableCommand (command_tree command.now) }
-    requires formula { GivesFormula (meaning (command_tree command.now)).answer }
+    requires proper { IsWritableCommand (plain_command command.now) }
+    requires formula { GivesFormula (meaning (plain_command command.now)).answer }
     requires session { IsSessionState state.old }
     ensures session { OnOk result (IsSessionState state.new) }
-    ensures answer { IfOk result (λ line. IsFormulaAnswer (numbered (meaning (command_tree command.now)) (state_of state.old)) workshop.now.limits.nodes (use_of target.now printed) (command_tree command.now) line (state_of state.new)) }
-    ensures refusal { IfErr result (Refuses (numbered (meaning (command_tree command.now)) (state_of state.old)) workshop.now.limits.nodes (use_of target.now printed) (command_tree command.now)) }
+    ensures answer { IfOk result (λ line. IsFormulaAnswer (numbered (meaning (plain_command command.now)) (state_of state.old)) workshop.now.limits.nodes (use_of target.now printed) (plain_command command.now) line (state_of state.new)) }
+    ensures refusal { IfErr result (Refuses (numbered (meaning (plain_command command.now)) (state_of state.old)) workshop.now.limits.nodes (use_of target.now printed) (plain_command command.now)) }
     ensures grown { OnErr result (GrowsState state.old state.new) }
 {
     let Some((wanted, formula)) = form_command_of(command) else {

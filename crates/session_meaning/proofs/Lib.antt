@@ -1,3 +1,4 @@
 mod Examples
 pub mod FromAnswerTexts
+pub mod FromFreeNames
 pub mod FromPrenexForms

@@ -1,8 +1,9 @@
 -- What a statement is answered with in a state, and the state after it.
-use Rattle.std.specs.Prelude.{◌≡◌, ◌≤◌, ℕ, List, [], length, Bool, true, false, Some, None, Result, Ok, Err}
+use Rattle.std.specs.Prelude.{◌≡◌, ◌⊎◌, ◌≤◌, ℕ, List, [], length, Bool, true, false, Some, None, Result, Ok, Err}
 use Rattle.formula_meaning.specs.Tree.{Tree, tree_distinct}
 use Rattle.statement_syntax.specs.Statements.{ActionTree, Empty, Ignored, Finish, Choose, Say, Assign, Assume, Retract, StatementTree}
 use Rattle.qe_syntax.specs.Trees.{FormulaTrees}
+use Rattle.qe_syntax.specs.Holes.{alone, is_some_command}
 use Rattle.redlog_reader.specs.Statement.{Spells, Unread}
 use Rattle.redlog_tokens.specs.declared.token.ReadError.TheVariants as reading
 use Rattle.redlog_printer.specs.Writing.{text_limit}
@@ -81,26 +82,31 @@ RefusesAction s limit printed (Assign x c) e = IsFirst (meaning c) (numbered (me
 RefusesAction s limit printed (Assume given) e = IsFirst (assumption_meaning given) (numbered (assumption_meaning given) s) limit (record { target = None; printed = printed }) e
 RefusesAction s limit printed Retract e = ⊥
 
+-- The word with which a statement is refused. Commands inside formulas are read and not yet answered: a statement with one has the word syntax.
+abbrev pub RefusesStatement : State → ℕ → StatementTree → StatementError → Type 0
+RefusesStatement s limit t e = ((t.inner ≡ alone) × RefusesAction s limit t.printed t.action e) ⊎ ((is_some_command t.inner ≡ true) × (e ≡ error.Syntax))
+
 -- ---- pieces
 
 -- the bytes of a piece spell a statement that is answered with the line
 pub record IsAnswer (s : State) (limit : ℕ) (piece : List ℕ) (answer : Line) (next : State) : Type 0 where
   pub statement : StatementTree
   pub spelled : Spells piece statement
+  pub plain : statement.inner ≡ alone
   pub answered : Answers s limit statement.printed statement.action answer next
 
 -- the bytes spell a statement that is refused with the word
 pub record SpellsRefused (s : State) (limit : ℕ) (piece : List ℕ) (e : StatementError) : Type 0 where
   pub statement : StatementTree
   pub spelled : Spells piece statement
-  pub refused : RefusesAction s limit statement.printed statement.action e
+  pub refused : RefusesStatement s limit statement e
 
 -- Why a piece is refused. A refusal changes nothing; of want of memory nothing is said.
 abbrev pub IsRefused : State → ℕ → List ℕ → State → StatementError → Type 0
 IsRefused s limit piece next error.Long = (next ≡ s) × Unread piece reading.Long
 IsRefused s limit piece next error.Lexical = (next ≡ s) × Unread piece reading.Lexical
 IsRefused s limit piece next error.Nesting = (next ≡ s) × Unread piece reading.Nesting
-IsRefused s limit piece next error.Syntax = (next ≡ s) × Unread piece reading.Syntax
+IsRefused s limit piece next error.Syntax = (next ≡ s) × (Unread piece reading.Syntax ⊎ SpellsRefused s limit piece error.Syntax)
 IsRefused s limit piece next error.Unbound = (next ≡ s) × SpellsRefused s limit piece error.Unbound
 IsRefused s limit piece next error.FormulaAsTerm = (next ≡ s) × SpellsRefused s limit piece error.FormulaAsTerm
 IsRefused s limit piece next error.Nonlinear = (next ≡ s) × SpellsRefused s limit piece error.Nonlinear

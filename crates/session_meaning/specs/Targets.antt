@@ -12,7 +12,7 @@ use Rattle.formula_meaning.specs.declared.quantifier.Quantifier.TheVariants.{Exi
 use Rattle.qe_syntax.specs.declared.tree.Relation.TheVariants.{Equal}
 use Rattle.qe_syntax.specs.Trees.{TermTree, Named, Compare, FormulaTree, FormulaTrees}
 use Rattle.qe_syntax.specs.Value.{value}
-use Rattle.redlog_reader.specs.Grammar.{quantified_names}
+use Rattle.statement_syntax.specs.QuantifiedNames.{quantified_names}
 use Rattle.formula_tree.specs.Names.{with_name, place}
 use Rattle.resolved_formulas.specs.Resolving.{variables_of, all_variables, resolve}
 use Rattle.case_theory.specs.FromEliminationReference.{reference}

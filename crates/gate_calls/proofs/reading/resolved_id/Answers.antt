@@ -7,7 +7,7 @@ use Rattle.formula_resolving.specs.BoundIds.{trees_bound}
 use Rattle.formula_store.specs.Nodes.{tree}
 use Rattle.resolved_formulas.specs.ResolvedLaws.{HasNormalTrees}
 use Rattle.resolved_formulas.proofs.ResolvedTruth.{resolving_is_normal}
-use Rattle.qe_syntax.specs.CodeTrees.{formula_tree}
+use Rattle.qe_syntax.specs.CodeTrees.{named_tree}
 use Rattle.gate_calls.proofs.reading.resolved_id.Goals as goal
 
 nothing_bound : (c : Context) → HasNormalTrees c []
@@ -18,5 +18,5 @@ returns-in-Ok-clause-normal c =
     let theory = context_of c.args.context in
     let bound = trees_bound (tree c.args.store.now) c.new-bound.result in
     let none : HasNormalTrees theory bound = subst (λ bs. HasNormalTrees theory (trees_bound (tree c.args.store.now) bs)) (sym c.new-bound.ensures) (nothing_bound theory) in
-    let resolved = resolving_is_normal theory bound c.new-names.result (formula_tree c.args.formula.now) none c.in-Ok.ensures.accepted in
+    let resolved = resolving_is_normal theory bound c.new-names.result (named_tree 0 c.args.formula.now) none c.in-Ok.ensures.accepted in
     subst (Every (IsNormal theory)) (sym c.in-Ok.ensures.resolved.same) resolved

@@ -2,15 +2,28 @@ use Rattle.std.proofs.Common.{ap, sym, ◌∙◌}
 use Rattle.std.specs.List.{fold}
 use Rattle.std.proofs.lemmas.List.Sums.{fold-append}
 use Rattle.std.proofs.lemmas.Result.{IfOk-weaker}
+use Rattle.formula_meaning.specs.Formula.{One}
+use Rattle.qe_syntax.specs.Trees.{Compare}
 use Rattle.qe_syntax.specs.CodeTrees.{term_tree, formula_tree}
 use Rattle.formula_tree.specs.Names.{with_name}
 use Rattle.resolved_formulas.specs.Resolving.{variables_of, formula_variables}
 use Rattle.qe_syntax.proofs.TreeEquations.{formula-Compare}
+use Rattle.least_queries.proofs.PlainFormulas.{whole_tree, whole_plain}
 use Rattle.least_queries.proofs.CopySteps.{comparison_alone}
 use Rattle.least_queries.proofs.copies.copied_comparison.Goals as goal
 
 pub unreachable-requires : goal.unreachable-requires
 unreachable-requires c = comparison_alone c.args.formula.now c.requires c.in_default.not-Compare
+
+pub returns-clause-same : goal.returns-clause-same
+returns-clause-same c =
+    let e = ap formula_tree c.in-Compare.is ∙ formula-Compare c.in-Compare.relation c.in-Compare.left c.in-Compare.right in
+    let left = c.in_ok-left.ensures.same ∙ ap term_tree c.deref.ensures in
+    let right = c.in_ok-right.ensures.same ∙ ap term_tree c.deref-2.ensures in
+    IfOk-weaker c.comparison.result _ _ (λ f h. whole_tree f _ h ∙ (λ i. One (Compare c.in-Compare.relation (left i) (right i))) ∙ sym e) c.comparison.ensures
+
+pub returns-clause-plain : goal.returns-clause-plain
+returns-clause-plain c = IfOk-weaker c.comparison.result _ _ (λ f h. whole_plain f _ h) c.comparison.ensures
 
 pub returns-clause-numbered : goal.returns-clause-numbered
 returns-clause-numbered c =

@@ -16,7 +16,7 @@ use Rattle.least_queries.proofs.least.answer_least.Goals as goal
 
 pub read-requires-clause-proper : goal.read-requires-clause-proper
 read-requires-clause-proper g c =
-    subst IsProperFormula (sym c.in-Ok.ensures) (problem_proper (formulas_of (map formula_tree c.args.written.now)) (term_tree c.args.target.now) c.requires.proper c.requires.target)
+    subst IsProperFormula (sym c.in-Ok.ensures.tree) (problem_proper (formulas_of (map formula_tree c.args.written.now)) (term_tree c.args.target.now) c.requires.proper c.requires.target)
 
 pub returns-in_err-id-clause-refused : goal.returns-in_err-id-clause-refused
 returns-in_err-id-clause-refused g c =
@@ -25,7 +25,7 @@ returns-in_err-id-clause-refused g c =
     let limit = c.args.workshop.now.limits.nodes in
     let e : c.from_residual.result ≡ Err c.in_err-id.field-0.0 = search rules in
     subst (λ r. IfErr r (Refuses (numbered (meaning (Least written target)) (state_of c.args.state.now)) limit (use_of None c.args.printed) (Least written target))) (sym e)
-    (unread_refuses (state_of c.args.state.now) written target (formula_tree c.in-Ok.problem) c.in-Ok.ensures limit c.args.printed c.in_err-id.field-0.0 c.in_err-id.ensures.unread)
+    (unread_refuses (state_of c.args.state.now) written target (formula_tree c.in-Ok.problem) c.in-Ok.ensures.tree limit c.args.printed c.in_err-id.field-0.0 c.in_err-id.ensures.unread)
 
 pub overflow_sub-last : goal.overflow_sub-last
 overflow_sub-last g c =
@@ -33,7 +33,7 @@ overflow_sub-last g c =
     let mid = c.read.new.state in
     let written = formulas_of (map formula_tree c.args.written.now) in
     let target = term_tree c.args.target.now in
-    let a = asked old mid written target (formula_tree c.in-Ok.problem) c.in_ok-id.id c.in-Ok.ensures c.requires.session c.requires.proper c.requires.weak c.requires.target c.in_ok-id.ensures.grown c.in_ok-id.ensures.read in
+    let a = asked old mid written target (formula_tree c.in-Ok.problem) c.in_ok-id.id c.in-Ok.ensures.tree c.requires.session c.requires.proper c.requires.weak c.requires.target c.in_ok-id.ensures.grown c.in_ok-id.ensures.read in
     subst (λ n. 1 ≤ n) (sym c.count-last.ensures) (some_there old mid written target c.in_ok-id.id a)
 
 pub look-requires-clause-normal : goal.look-requires-clause-normal
@@ -42,7 +42,7 @@ look-requires-clause-normal g c κs within =
     let mid = c.read.new.state in
     let written = formulas_of (map formula_tree c.args.written.now) in
     let target = term_tree c.args.target.now in
-    let a = asked old mid written target (formula_tree c.in-Ok.problem) c.in_ok-id.id c.in-Ok.ensures c.requires.session c.requires.proper c.requires.weak c.requires.target c.in_ok-id.ensures.grown c.in_ok-id.ensures.read in
+    let a = asked old mid written target (formula_tree c.in-Ok.problem) c.in_ok-id.id c.in-Ok.ensures.tree c.requires.session c.requires.proper c.requires.weak c.requires.target c.in_ok-id.ensures.grown c.in_ok-id.ensures.read in
     normal_there old mid written target c.in_ok-id.id a
 
 pub look-requires-clause-weak : goal.look-requires-clause-weak
@@ -51,7 +51,7 @@ look-requires-clause-weak g c κs within =
     let mid = c.read.new.state in
     let written = formulas_of (map formula_tree c.args.written.now) in
     let target = term_tree c.args.target.now in
-    let a = asked old mid written target (formula_tree c.in-Ok.problem) c.in_ok-id.id c.in-Ok.ensures c.requires.session c.requires.proper c.requires.weak c.requires.target c.in_ok-id.ensures.grown c.in_ok-id.ensures.read in
+    let a = asked old mid written target (formula_tree c.in-Ok.problem) c.in_ok-id.id c.in-Ok.ensures.tree c.requires.session c.requires.proper c.requires.weak c.requires.target c.in_ok-id.ensures.grown c.in_ok-id.ensures.read in
     weak_there old mid written target c.in_ok-id.id a
 
 pub returns-in_err-found-clause-refused : goal.returns-in_err-found-clause-refused
@@ -60,7 +60,7 @@ returns-in_err-found-clause-refused g c =
     let mid = c.read.new.state in
     let written = formulas_of (map formula_tree c.args.written.now) in
     let target = term_tree c.args.target.now in
-    let a = asked old mid written target (formula_tree c.in-Ok.problem) c.in_ok-id.id c.in-Ok.ensures c.requires.session c.requires.proper c.requires.weak c.requires.target c.in_ok-id.ensures.grown c.in_ok-id.ensures.read in
+    let a = asked old mid written target (formula_tree c.in-Ok.problem) c.in_ok-id.id c.in-Ok.ensures.tree c.requires.session c.requires.proper c.requires.weak c.requires.target c.in_ok-id.ensures.grown c.in_ok-id.ensures.read in
     let limit = c.args.workshop.now.limits.nodes in
     let stop = subst (λ n. FoundStop limit (n - 1) (tree mid.store c.in_ok-id.id) c.in_err-found.field-0.0) c.count-last.ensures c.in_err-found.ensures.stopped in
     let e : c.from_residual-in_err-found.result ≡ Err c.in_err-found.field-0.0 = search rules in
@@ -76,7 +76,7 @@ target_line-requires-clause-within g c =
     let mid = c.read.new.state in
     let written = formulas_of (map formula_tree c.args.written.now) in
     let target = term_tree c.args.target.now in
-    let a = asked old mid written target (formula_tree c.in-Ok.problem) c.in_ok-id.id c.in-Ok.ensures c.requires.session c.requires.proper c.requires.weak c.requires.target c.in_ok-id.ensures.grown c.in_ok-id.ensures.read in
+    let a = asked old mid written target (formula_tree c.in-Ok.problem) c.in_ok-id.id c.in-Ok.ensures.tree c.requires.session c.requires.proper c.requires.weak c.requires.target c.in_ok-id.ensures.grown c.in_ok-id.ensures.read in
     let later = c.look.new.state in
     let k = c.in_ok-found.ensures.kept in
     let found = subst (λ n. IsTargetFound (n - 1) (tree mid.store c.in_ok-id.id) (found_of c.in_ok-found.found)) c.count-last.ensures c.in_ok-found.ensures.found in
@@ -88,7 +88,7 @@ target_line-requires-clause-short g c =
     let mid = c.read.new.state in
     let written = formulas_of (map formula_tree c.args.written.now) in
     let target = term_tree c.args.target.now in
-    let a = asked old mid written target (formula_tree c.in-Ok.problem) c.in_ok-id.id c.in-Ok.ensures c.requires.session c.requires.proper c.requires.weak c.requires.target c.in_ok-id.ensures.grown c.in_ok-id.ensures.read in
+    let a = asked old mid written target (formula_tree c.in-Ok.problem) c.in_ok-id.id c.in-Ok.ensures.tree c.requires.session c.requires.proper c.requires.weak c.requires.target c.in_ok-id.ensures.grown c.in_ok-id.ensures.read in
     let later = c.look.new.state in
     let k = c.in_ok-found.ensures.kept in
     let found = subst (λ n. IsTargetFound (n - 1) (tree mid.store c.in_ok-id.id) (found_of c.in_ok-found.found)) c.count-last.ensures c.in_ok-found.ensures.found in
@@ -103,7 +103,7 @@ returns-clause-session g c =
     let mid = c.read.new.state in
     let written = formulas_of (map formula_tree c.args.written.now) in
     let target = term_tree c.args.target.now in
-    let a = asked old mid written target (formula_tree c.in-Ok.problem) c.in_ok-id.id c.in-Ok.ensures c.requires.session c.requires.proper c.requires.weak c.requires.target c.in_ok-id.ensures.grown c.in_ok-id.ensures.read in
+    let a = asked old mid written target (formula_tree c.in-Ok.problem) c.in_ok-id.id c.in-Ok.ensures.tree c.requires.session c.requires.proper c.requires.weak c.requires.target c.in_ok-id.ensures.grown c.in_ok-id.ensures.read in
     let later = c.look.new.state in
     let k = c.in_ok-found.ensures.kept in
     let kept = c.keep_first.ensures ∙ ap (λ n. take (n - 1) later.names) c.count-last.ensures in
@@ -115,7 +115,7 @@ returns-clause-answer g c =
     let mid = c.read.new.state in
     let written = formulas_of (map formula_tree c.args.written.now) in
     let target = term_tree c.args.target.now in
-    let a = asked old mid written target (formula_tree c.in-Ok.problem) c.in_ok-id.id c.in-Ok.ensures c.requires.session c.requires.proper c.requires.weak c.requires.target c.in_ok-id.ensures.grown c.in_ok-id.ensures.read in
+    let a = asked old mid written target (formula_tree c.in-Ok.problem) c.in_ok-id.id c.in-Ok.ensures.tree c.requires.session c.requires.proper c.requires.weak c.requires.target c.in_ok-id.ensures.grown c.in_ok-id.ensures.read in
     let later = c.look.new.state in
     let k = c.in_ok-found.ensures.kept in
     let found = subst (λ n. IsTargetFound (n - 1) (tree mid.store c.in_ok-id.id) (found_of c.in_ok-found.found)) c.count-last.ensures c.in_ok-found.ensures.found in
@@ -127,7 +127,7 @@ returns-clause-next g c =
     let mid = c.read.new.state in
     let written = formulas_of (map formula_tree c.args.written.now) in
     let target = term_tree c.args.target.now in
-    let a = asked old mid written target (formula_tree c.in-Ok.problem) c.in_ok-id.id c.in-Ok.ensures c.requires.session c.requires.proper c.requires.weak c.requires.target c.in_ok-id.ensures.grown c.in_ok-id.ensures.read in
+    let a = asked old mid written target (formula_tree c.in-Ok.problem) c.in_ok-id.id c.in-Ok.ensures.tree c.requires.session c.requires.proper c.requires.weak c.requires.target c.in_ok-id.ensures.grown c.in_ok-id.ensures.read in
     let later = c.look.new.state in
     let k = c.in_ok-found.ensures.kept in
     let kept = c.keep_first.ensures ∙ ap (λ n. take (n - 1) later.names) c.count-last.ensures in
@@ -139,7 +139,7 @@ returns-clause-given_back g c =
     let mid = c.read.new.state in
     let written = formulas_of (map formula_tree c.args.written.now) in
     let target = term_tree c.args.target.now in
-    let a = asked old mid written target (formula_tree c.in-Ok.problem) c.in_ok-id.id c.in-Ok.ensures c.requires.session c.requires.proper c.requires.weak c.requires.target c.in_ok-id.ensures.grown c.in_ok-id.ensures.read in
+    let a = asked old mid written target (formula_tree c.in-Ok.problem) c.in_ok-id.id c.in-Ok.ensures.tree c.requires.session c.requires.proper c.requires.weak c.requires.target c.in_ok-id.ensures.grown c.in_ok-id.ensures.read in
     let later = c.look.new.state in
     let k = c.in_ok-found.ensures.kept in
     let kept = c.keep_first.ensures ∙ ap (λ n. take (n - 1) later.names) c.count-last.ensures in

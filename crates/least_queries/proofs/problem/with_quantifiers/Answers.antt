@@ -5,7 +5,8 @@ use Rattle.formula_meaning.specs.Formula.{Ex}
 use Rattle.formula_meaning.specs.declared.quantifier.Quantifier.TheVariants.{Exists}
 use Rattle.qe_syntax.specs.CodeTrees.{formula_tree}
 use Rattle.qe_syntax.proofs.EntryLists.{rest_at}
-use Rattle.redlog_reader.specs.Grammar.{quantified_names}
+use Rattle.statement_syntax.specs.QuantifiedNames.{quantified_names}
+use Rattle.least_queries.proofs.PlainFormulas.{over_tree, over_plain}
 use Rattle.least_queries.proofs.problem.with_quantifiers.Goals as goal
 
 -- there is a name below their count
@@ -21,7 +22,14 @@ loop-number-preserved-in-Some c =
     let is : slice_get names i ≡ Some x = search rules in
     let e : i + 1 ≡ n = omega arith in
     let left : drop i names ≡ x ∷ drop n names = rest_at names i x (slice_get_within names i x is) (sym (get_or_from_slice_get names i x x is)) ∙ ap (λ m. x ∷ drop m names) e in
-    c.in_ok-quantified.ensures ∙ (λ j. Ex (c.of.ensures j) (c.loop-number.invariant j)) ∙ sym (ap (λ xs. quantified_names Exists xs (formula_tree c.args.formula)) left)
+    let before = c.loop-number.invariant in
+    let made = c.in_ok-quantified.ensures in
+    record {
+      tree =
+          over_tree (Ex c.of.result) c.in_ok-quantified.quantified c.loop-number.quantified made ∙ (λ j. Ex (c.of.ensures j) (before.tree j))
+          ∙ sym (ap (λ xs. quantified_names Exists xs (formula_tree c.args.formula)) left);
+      plain = over_plain (Ex c.of.result) c.in_ok-quantified.quantified c.loop-number.quantified made before.plain;
+    }
 
 pub loop-number-preserved : goal.loop-number-preserved
 loop-number-preserved c =

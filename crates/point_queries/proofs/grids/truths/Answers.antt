@@ -6,6 +6,7 @@ use Rattle.point_grid.specs.Frames.{Frame}
 use Rattle.point_grid.specs.FramePoints.{IsFrame}
 use Rattle.problem_reading.specs.FromSessionState.{state_of}
 use Rattle.point_queries.specs.Asked.{RefusesAsking}
+use Rattle.session_meaning.proofs.FromFreeNames.{written_whole}
 use Rattle.point_queries.proofs.AskedSteps.{ids_there}
 use Rattle.point_queries.proofs.GridCauses.{grid_asks}
 use Rattle.point_queries.proofs.GridSteps.{axes_stop, names_stop, quantifier_stops, reading_stops, grid_refused, free_there, whole_there, truths_told, truths_few, truths_accepted, truths_refused}
@@ -25,8 +26,8 @@ returns-in_err-check_axes-clause-refused g c =
     (axes_stop c.args.state.now c.read.new.state (formula_tree c.args.formula.now) c.args.axes.now c.args.lows.now c.requires.lows c.requires.session c.requires.numbered c.in_ok-id.ensures.kept c.args.workshop.now.limits.nodes c.in_ok-id.id c.in_ok-id.ensures.read
     c.in_err-check_axes.field-0.0 c.in_err-check_axes.ensures.fault)
 
-pub check_valued-requires : goal.check_valued-requires
-check_valued-requires g c = ids_there c.args.state.now c.read.new.state (formula_tree c.args.formula.now) c.args.lows.now c.requires.session c.requires.numbered c.in_ok-id.ensures.kept
+pub check_valued-requires-clause-ids : goal.check_valued-requires-clause-ids
+check_valued-requires-clause-ids g c = ids_there c.args.state.now c.read.new.state (formula_tree c.args.formula.now) c.args.lows.now c.requires.session c.requires.numbered c.in_ok-id.ensures.kept
 
 pub returns-in_err-check_valued-clause-refused : goal.returns-in_err-check_valued-clause-refused
 returns-in_err-check_valued-clause-refused g c =
@@ -35,8 +36,11 @@ returns-in_err-check_valued-clause-refused g c =
     (names_stop c.args.state.now c.read.new.state (formula_tree c.args.formula.now) c.args.axes.now c.args.lows.now c.requires.lows c.requires.session c.requires.numbered c.in_ok-id.ensures.kept c.args.workshop.now.limits.nodes c.in_ok-id.id c.in_ok-id.ensures.read
     c.in_ok-check_axes.ensures.meant c.in_err-check_valued.field-0.0 c.in_err-check_valued.ensures.fault)
 
-pub is_quantified-requires : goal.is_quantified-requires
-is_quantified-requires g c = ids_there c.args.state.now c.read.new.state (formula_tree c.args.formula.now) c.args.lows.now c.requires.session c.requires.numbered c.in_ok-id.ensures.kept
+pub is_quantified-requires-clause-whole : goal.is_quantified-requires-clause-whole
+is_quantified-requires-clause-whole g c = written_whole (formula_tree c.args.formula.now) c.requires.proper
+
+pub is_quantified-requires-clause-ids : goal.is_quantified-requires-clause-ids
+is_quantified-requires-clause-ids g c = ids_there c.args.state.now c.read.new.state (formula_tree c.args.formula.now) c.args.lows.now c.requires.session c.requires.numbered c.in_ok-id.ensures.kept
 
 pub returns-then-is_quantified-clause-refused : goal.returns-then-is_quantified-clause-refused
 returns-then-is_quantified-clause-refused g c =

@@ -2,6 +2,7 @@ use Rattle.std.proofs.Common.{sym, ◌∙◌}
 use Rattle.std.proofs.lemmas.Bool.{false≢true}
 use Rattle.std.proofs.lemmas.Result.{err_from_is_err_and}
 use Rattle.qe_syntax.specs.CodeTrees.{formula_tree}
+use Rattle.session_meaning.proofs.FromFreeNames.{written_whole}
 use Rattle.point_queries.proofs.AskedSteps.{ids_there, normal_there}
 use Rattle.problem_reading.proofs.FromSessionState.{keeps_then}
 use Rattle.point_queries.proofs.TruthSteps.{free_there, whole_there, truth_told, truth_stops, eliminated_told, eliminated_stops}
@@ -12,8 +13,11 @@ returns-in_err-id-clause-refused g c =
     let p = err_from_is_err_and c.from_residual.result c.from_residual.ensures.1 in
     rw (p.1, p.2) (λ printed. (c.in_err-id.ensures.refused c.args.workshop.now.limits.nodes printed).0)
 
-pub is_quantified-requires : goal.is_quantified-requires
-is_quantified-requires g c = ids_there c.args.state.now c.asked.new.state (formula_tree c.args.formula.now) c.args.entries.now c.requires.session c.requires.numbered c.in_ok-id.ensures.kept
+pub is_quantified-requires-clause-whole : goal.is_quantified-requires-clause-whole
+is_quantified-requires-clause-whole g c = written_whole (formula_tree c.args.formula.now) c.requires.proper
+
+pub is_quantified-requires-clause-ids : goal.is_quantified-requires-clause-ids
+is_quantified-requires-clause-ids g c = ids_there c.args.state.now c.asked.new.state (formula_tree c.args.formula.now) c.args.entries.now c.requires.session c.requires.numbered c.in_ok-id.ensures.kept
 
 pub eliminated_truth-requires-clause-normal : goal.eliminated_truth-requires-clause-normal
 eliminated_truth-requires-clause-normal g c _ _ = normal_there c.args.state.now c.asked.new.state (formula_tree c.args.formula.now) c.args.entries.now c.requires.session c.requires.numbered c.in_ok-id.ensures.kept c.in_ok-id.id c.in_ok-id.point c.in_ok-id.ensures.asked

@@ -14,8 +14,8 @@ returns-in_err-point-clause-refused c =
     let p = err_from_is_err_and c.from_residual-in_err-point.result c.from_residual-in_err-point.ensures.1 in
     rw (p.1, p.2) (point_stops c.args.state.now c.read.new.state (formula_tree c.args.formula.now) c.args.entries.now c.requires.session c.requires.numbered c.in_ok-id.ensures.kept c.in_ok-id.id c.in_ok-id.ensures.read c.in_err-point.field-0.0 c.in_err-point.ensures.fault)
 
-pub check_valued-requires : goal.check_valued-requires
-check_valued-requires c = ids_there c.args.state.now c.read.new.state (formula_tree c.args.formula.now) c.args.entries.now c.requires.session c.requires.numbered c.in_ok-id.ensures.kept
+pub check_valued-requires-clause-ids : goal.check_valued-requires-clause-ids
+check_valued-requires-clause-ids c = ids_there c.args.state.now c.read.new.state (formula_tree c.args.formula.now) c.args.entries.now c.requires.session c.requires.numbered c.in_ok-id.ensures.kept
 
 pub returns-in_err-check_valued-clause-refused : goal.returns-in_err-check_valued-clause-refused
 returns-in_err-check_valued-clause-refused c =

@@ -14,11 +14,11 @@ use Rattle.session_commands.proofs.formulas.read_wanted.Goals as goal
 pub read_parts-requires-clause-proper_given : goal.read_parts-requires-clause-proper_given
 read_parts-requires-clause-proper_given c = proper_items c.assumptions.result.now (subst AreWritableFormulas (sym c.assumptions.ensures) c.requires.given)
 
-pub has_unwanted_quantifier-requires : goal.has_unwanted_quantifier-requires
-has_unwanted_quantifier-requires c = kept_ids c.args.state.now c.read_parts.new.state c.requires.ids c.read_parts.ensures.kept
+pub has_unwanted_quantifier-requires-clause-ids : goal.has_unwanted_quantifier-requires-clause-ids
+has_unwanted_quantifier-requires-clause-ids c = kept_ids c.args.state.now c.read_parts.new.state c.requires.ids c.read_parts.ensures.kept
 
-pub has_unwanted_quantifier-requires-in-Err-Overflow : goal.has_unwanted_quantifier-requires-in-Err-Overflow
-has_unwanted_quantifier-requires-in-Err-Overflow c = kept_ids c.args.state.now c.read_parts.new.state c.requires.ids c.read_parts.ensures.kept
+pub has_unwanted_quantifier-requires-in-Err-Overflow-clause-ids : goal.has_unwanted_quantifier-requires-in-Err-Overflow-clause-ids
+has_unwanted_quantifier-requires-in-Err-Overflow-clause-ids c = kept_ids c.args.state.now c.read_parts.new.state c.requires.ids c.read_parts.ensures.kept
 
 pub returns-then-has_unwanted_quantifier-clause-unready : goal.returns-then-has_unwanted_quantifier-clause-unready
 returns-then-has_unwanted_quantifier-clause-unready c =
