@@ -24,7 +24,7 @@ use Rattle.session_meaning.specs.Uses.{Use}
 use Rattle.session_meaning.specs.Causes.{HasLongLine, MayBeCause, HasNone, IsFirst, IsAccepted}
 use Rattle.session_meaning.specs.Reply.{IsLine, AnswersSaid, Answers, Reply}
 use Rattle.redlog_run.proofs.FromProblemReading.{no_cause, then_clear, readable_below}
-use Rattle.redlog_run.proofs.Unrefused.{never}
+use Rattle.redlog_run.proofs.Unrefused.{never, action_refused}
 use Rattle.lines_read_back.specs.ReadBack.{IsBare, IsOwnFormula, IsSameLine, TextIsAnswered}
 
 same_with : (s : State) (names : List (List ℕ)) → names ≡ s.names → with_names s names ≡ s
@@ -56,7 +56,7 @@ module _ (s : State) (limit : ℕ) (t : Tree) (bare : IsBare s) (own : IsOwnForm
   accepted = subst (λ bs. IsResolvable s.context bs s.names w) (sym bare.unbound) back.resolved.accepted
 
   -- the text is shorter than a text may be
-  short : length (tree_text s.names t) ≤ 1048576
+  short : length (tree_text s.names t) ≤ 4194304
   short = let l = readable.short in let e = length-append (tree_text s.names t) (codes ";") in omega arith
 
   abbrev of_line : Meaning
@@ -108,7 +108,7 @@ module _ (s : State) (limit : ℕ) (t : Tree) (bare : IsBare s) (own : IsOwnForm
   only : (result : Result Line StatementError) (next : State) → Reply s limit (line_text s.names t) result next → IsSameLine s (tree_text s.names t) result next
   only (Ok answer) next r = answer_is answer next (subst (λ (u : StatementTree). Answers s limit u.printed u.action answer next) (back.spells.alone r.statement r.spelled) r.answered)
   only (Err error.Memory) next r = tt
-  only (Err e) next r = absurd (never s limit (line_text s.names t) (printed_echo w) back.spells.spelled (λ d other h. unrefused d other h) e next (λ m. absurd (cc)) r)
+  only (Err e) next r = absurd (never s limit (line_text s.names t) (printed_echo w) back.spells.spelled (λ d other h. unrefused d other (action_refused s limit (printed_echo w) d refl h)) e next (λ m. absurd (cc)) r)
 
   -- and there is this one
   answers : (bytes : Vec ℕ Global) → bytes.items ≡ tree_text s.names t → AnswersSaid of_line s limit true (line.Printed bytes) s
@@ -126,6 +126,7 @@ module _ (s : State) (limit : ℕ) (t : Tree) (bare : IsBare s) (own : IsOwnForm
   answered bytes e = record {
     statement = printed_echo w;
     spelled = back.spells.spelled;
+    plain = refl;
     answered = subst (λ (z : State). AnswersSaid of_line z limit true (line.Printed bytes) s) (sym same_state) (answers bytes e);
   }
 

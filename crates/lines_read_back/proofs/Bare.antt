@@ -4,10 +4,11 @@ use Rattle.std.proofs.lemmas.List.{append_cancel_right}
 use Rattle.std.specs.List.{fold}
 use Rattle.statement_syntax.specs.Statements.{CommandTree, Echo, Nnf, Pnf, Dnf, Cnf, Simpl, Qe, Qea, Holds, Sample, Grid, Certify, Check, Least, ActionTree, Empty, Ignored, Finish, Choose, Say, Assign, Assume, Retract, StatementTree}
 use Rattle.qe_syntax.specs.Trees.{TermTree, FormulaTrees}
+use Rattle.qe_syntax.specs.Holes.{alone}
 use Rattle.qe_syntax.specs.Writable.{AreWritableFormulas}
 use Rattle.qe_syntax.specs.declared.entries.PointEntry.{PointEntry}
 use Rattle.statement_syntax.specs.declared.grid.GridAxis.{GridAxis}
-use Rattle.statement_syntax.specs.Writable.{AreWritableAxes, IsWritableCommand, IsWritable}
+use Rattle.statement_syntax.specs.Writable.{AreWritableAxes, IsNameBeside, IsActionOver, IsWritableCommand, IsWritableAction, IsWritable}
 use Rattle.formula_tree.specs.Names.{with_name}
 use Rattle.resolved_formulas.specs.Resolving.{formula_variables, all_variables}
 use Rattle.resolved_formulas.specs.NamesAfter.{names_after}
@@ -101,10 +102,14 @@ assumed_variables s given h v = record {
 pub spelled_proper : {piece : List ℕ} {t : StatementTree} → Spells piece t → IsWritable t
 spelled_proper h = proper_statement h.spelled (lexed_proper h.kinds h.tokens.lexes h.tokens.good)
 
+-- an action inside which no command stands
+plain_action : (t : StatementTree) → t.inner ≡ alone → IsWritable t → IsWritableAction t.action
+plain_action t plain w = subst (λ ns. IsActionOver (IsNameBeside ns) t.action) plain w.action
+
 abbrev HasVariables : State → Type 0
 HasVariables s = AreVariables s.names
 
-after_action : (s : State) (limit : ℕ) (printed : Bool) (a : ActionTree) (answer : Line) (next : State) → IsWritable (record { action = a; printed = printed }) → AreVariables s.names
+after_action : (s : State) (limit : ℕ) (printed : Bool) (a : ActionTree) (answer : Line) (next : State) → IsWritableAction a → AreVariables s.names
     → Answers s limit printed a answer next → AreVariables next.names
 after_action s limit printed Empty answer next p v h = subst HasVariables (sym h.1) v
 after_action s limit printed Ignored answer next p v h = subst HasVariables (sym h.1) v
@@ -117,4 +122,4 @@ after_action s limit printed Retract answer next p v h = subst HasVariables (sym
 
 pub names_stay_writable : NamesStayWritable
 names_stay_writable s limit piece answer next v r =
-    after_action s limit r.statement.printed r.statement.action answer next (spelled_proper r.spelled) v r.answered
+    after_action s limit r.statement.printed r.statement.action answer next (plain_action r.statement r.plain (spelled_proper r.spelled)) v r.answered

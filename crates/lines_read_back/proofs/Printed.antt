@@ -10,6 +10,7 @@ use Rattle.formula_meaning.specs.Shape.{IsQuantifierFree}
 use Rattle.formula_meaning.specs.Sizes.{height}
 use Rattle.formula_meaning.specs.Tree.{Tree}
 use Rattle.qe_syntax.specs.Trees.{FormulaTree, FormulaTrees}
+use Rattle.qe_syntax.specs.Holes.{alone}
 use Rattle.statement_syntax.specs.Statements.{CommandTree, Echo, Nnf, Pnf, Dnf, Cnf, Simpl, Qe, Qea, Holds, Sample, Grid, Certify, Check, Least, Say, StatementTree}
 use Rattle.qe_syntax.specs.Writable.{IsWritableFormula, AreWritableFormulas}
 use Rattle.statement_syntax.specs.Writable.{IsWritableCommand}
@@ -192,9 +193,9 @@ use_of_line = record { target = None; printed = true }
 pub printed_is_formula : PrintedIsFormula
 printed_is_formula s limit piece c bytes next bare built spelled r =
     let m = meaning c in
-    let a = subst (λ (u : StatementTree). Answers s limit u.printed u.action (line.Printed bytes) next) (spells_once piece r.statement (record { action = Say c; printed = true }) r.spelled spelled) r.answered in
+    let a = subst (λ (u : StatementTree). Answers s limit u.printed u.action (line.Printed bytes) next) (spells_once piece r.statement (record { action = Say c; printed = true; inner = alone }) r.spelled spelled) r.answered in
     let z = numbered m s in
-    let proper : IsWritableCommand c = spelled_proper spelled in
+    let proper : IsWritableCommand c = (spelled_proper spelled).action in
     let names : next.names ≡ a.names = ap (λ (y : State). y.names) a.after in
     let told = told_formula m.answer z limit a.names a.text built a.told in
     let text_is : bytes.items ≡ tree_text next.names told.0 = a.line.1 ∙ told.2 ∙ ap (λ ns. tree_text ns told.0) (sym names) in

@@ -6,13 +6,14 @@ use Rattle.formula_meaning.specs.Every.{Every}
 use Rattle.formula_meaning.specs.Sizes.{height}
 use Rattle.formula_meaning.specs.Tree.{Tree}
 use Rattle.qe_syntax.specs.Trees.{FormulaTree}
+use Rattle.qe_syntax.specs.Holes.{alone}
 use Rattle.statement_syntax.specs.Statements.{CommandTree, Echo, Nnf, Pnf, Dnf, Cnf, Simpl, Qe, Qea, Holds, Sample, Grid, Certify, Check, Least, Say}
 use Rattle.resolved_formulas.specs.Causes.{most_height}
 use Rattle.redlog_reader.specs.Statement.{Spells, IsDeep}
 use Rattle.redlog_reader.specs.declared.read.TheConstants.{BYTE_LIMIT}
 use Rattle.redlog_printer.specs.Text.{tree_text}
 use Rattle.formula_meaning.specs.Numbers.{IsAtomInLimit}
-use Rattle.printed_formulas.specs.Round.{AreVariables, IsReadable, line_text}
+use Rattle.printed_formulas.specs.Round.{AreVariables, IsReadable, line_text, printed_echo}
 use Rattle.session_meaning.specs.declared.line.Line.{Line}
 use Rattle.session_meaning.specs.declared.line.Line.TheVariants as line
 use Rattle.session_meaning.specs.declared.line.StatementError.{StatementError}
@@ -84,12 +85,12 @@ pub record IsPrinted (s : State) (limit : ℕ) (c : CommandTree) (text : List �
   pub low : IsEcho c → height tree ≤ most_height
   pub answered : height tree ≤ most_height → length (text ++ codes ";") ≤ BYTE_LIMIT → ¬ (IsDeep (text ++ codes ";")) → (more : ℕ) → IsAnsweredBy next more (text ++ codes ";") text
 
--- What each formula command prints in a state in which nothing is bound is such a text, and the state after it is again one in
+-- What each formula command, inside which no other stands, prints in a state in which nothing is bound is such a text, and the state after it is again one in
 -- which nothing is bound.
 abbrev pub PrintedIsFormula : Type 0
 PrintedIsFormula =
     (s : State) (limit : ℕ) (piece : List ℕ) (c : CommandTree) (bytes : Vec ℕ Global) (next : State) → IsBare s → GivesFormula (meaning c).answer →
-    Spells piece (record { action = Say c; printed = true }) → Reply s limit piece (Ok (line.Printed bytes)) next →
+    Spells piece (record { action = Say c; printed = true; inner = alone }) → Reply s limit piece (Ok (line.Printed bytes)) next →
     IsBare next × IsPrinted (numbered (meaning c) s) limit c bytes.items next
 
 -- So a line that a formula prints is answered with the same line in the state after it, where it is no longer and no deeper
@@ -97,6 +98,6 @@ PrintedIsFormula =
 abbrev pub EchoIsAnswered : Type 0
 EchoIsAnswered =
     (s : State) (limit : ℕ) (piece : List ℕ) (f : FormulaTree) (bytes : Vec ℕ Global) (next : State) → IsBare s →
-    Spells piece (record { action = Say (Echo f); printed = true }) → Reply s limit piece (Ok (line.Printed bytes)) next →
+    Spells piece (printed_echo f) → Reply s limit piece (Ok (line.Printed bytes)) next →
     length (bytes.items ++ codes ";") ≤ BYTE_LIMIT → ¬ (IsDeep (bytes.items ++ codes ";")) →
     (more : ℕ) → IsAnsweredBy next more (bytes.items ++ codes ";") bytes.items

@@ -3,7 +3,10 @@ use Rattle.std.proofs.Common.{ℕ, List, [], ◌∷◌, true, codes, refl, arith
 use Rattle.std.specs.Prelude.{Some}
 use Rattle.formula_meaning.specs.Formula.{Yes}
 use Rattle.qe_syntax.specs.Names.{is_word}
+use Rattle.qe_syntax.specs.Holes.{alone}
+use Rattle.qe_syntax.specs.Holes as holes
 use Rattle.statement_syntax.specs.Statements.{Choose, Say, Echo}
+use Rattle.statement_syntax.specs.Inner.{about}
 use Rattle.statement_syntax.specs.declared.statement.Setting.TheVariants.{Pasf}
 use Rattle.redlog_tokens.specs.declared.lexer.Lexeme.{Lexeme}
 use Rattle.redlog_tokens.specs.declared.token.TokenKind.{TokenKind}
@@ -12,13 +15,14 @@ use Rattle.redlog_tokens.specs.Terminals.{word_of, sign_of}
 use Rattle.redlog_tokens.specs.Levels.{groups}
 use Rattle.redlog_tokens.specs.Lexing.{front, signed, worded, Lexes, LexesFrom, over, spaced, taken}
 use Rattle.redlog_tokens.specs.Pieces.{HasNoTokenFrom, IsPiece, marked, inside}
-use Rattle.redlog_reader.specs.Grammar.{setting_of, choose, result, echo, acting, equivalence, replication, no_implication, disjunction, conjunction, prime, truth, no_conjunct, no_disjunct, no_repl, no_equiv}
+use Rattle.redlog_reader.specs.Grammar.{setting_of, choose, result, resulting, acting, equivalence, replication, no_implication, disjunction, conjunction, prime, truth, no_conjunct, no_disjunct, no_repl, no_equiv}
 use Rattle.redlog_reader.specs.Statement.{Spells}
 use Rattle.session_commands.proofs.Accepted.{truth_is_never_refused}
 use Rattle.redlog_run.specs.Run.{piece_bytes}
 use Rattle.redlog_run.specs.WithoutFormulas as script
 use Rattle.redlog_run.specs.Accepted.{SomeFormulaIsUnrefused}
 use Rattle.redlog_run.proofs.Accepted.{never_refused}
+use Rattle.redlog_run.proofs.Unrefused.{action_refused}
 
 abbrev text : List ℕ
 text = codes "rlset pasf; true;"
@@ -57,7 +61,7 @@ second_alone : Lexes (piece_bytes text 12 17) 0 (lexeme yes 0 4 ∷ lexeme mark 
 unfolding front worded is_word signed
 second_alone = taken {n = 4} refl refl refl (taken {n = 1} refl refl refl over)
 
-first_spells : Spells (piece_bytes text 0 11) (record { action = Choose Pasf; printed = true })
+first_spells : Spells (piece_bytes text 0 11) (record { action = Choose Pasf; printed = true; inner = alone })
 unfolding word_of sign_of groups setting_of
 first_spells = record {
   kinds = set ∷ pasf ∷ mark ∷ [];
@@ -66,13 +70,13 @@ first_spells = record {
   spelled = acting (choose refl) refl;
 }
 
-second_spells : Spells (piece_bytes text 12 17) (record { action = Say (Echo Yes); printed = true })
+second_spells : Spells (piece_bytes text 12 17) (record { action = Say (Echo Yes); printed = true; inner = alone })
 unfolding word_of sign_of groups
 second_spells = record {
   kinds = yes ∷ mark ∷ [];
   tokens = record { lexemes = lexeme yes 0 4 ∷ lexeme mark 4 5 ∷ []; short = omega arith; lexes = second_alone; good = refl };
   shallow = ⊎_elim (λ h. omega arith) (⊎_elim (λ h. omega arith) (λ h. h));
-  spelled = acting (result (echo (equivalence (replication (no_implication (disjunction (conjunction (prime truth) (no_conjunct refl)) (no_disjunct refl))) (no_repl refl)) (no_equiv refl)))) refl;
+  spelled = acting (result (resulting {c = about Echo (holes.whole Yes)} (equivalence (replication (no_implication (disjunction (conjunction (prime truth) (no_conjunct refl)) (no_disjunct refl))) (no_repl refl)) (no_equiv refl)) refl)) refl;
 }
 
 first_piece : IsPiece text 0 0 11
@@ -90,6 +94,6 @@ second_piece = record { first = lexeme yes 12 16; others = lexeme mark 16 17 ∷
 
 pub some_formula_is_unrefused : SomeFormulaIsUnrefused
 some_formula_is_unrefused =
-    never_refused text (record { action = Choose Pasf; printed = true } ∷ record { action = Say (Echo Yes); printed = true } ∷ [])
+    never_refused text (record { action = Choose Pasf; printed = true; inner = alone } ∷ record { action = Say (Echo Yes); printed = true; inner = alone } ∷ [])
     (script.then first_piece first_spells (λ e. absurd (cc)) (script.then second_piece second_spells (λ e. absurd (cc)) (script.over none_left)))
-    (λ s limit e other r. r, (truth_is_never_refused true, tt))
+    (λ s limit e other r. action_refused s limit (record { action = Choose Pasf; printed = true; inner = alone }) e refl r, (truth_is_never_refused true, tt))

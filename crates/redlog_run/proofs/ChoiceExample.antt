@@ -2,6 +2,7 @@
 use Rattle.std.proofs.Common.{ℕ, List, [], ◌∷◌, true, codes, refl, arith, ⊎_elim}
 use Rattle.std.specs.Prelude.{Some}
 use Rattle.qe_syntax.specs.Names.{is_word}
+use Rattle.qe_syntax.specs.Holes.{alone}
 use Rattle.statement_syntax.specs.Statements.{Choose, Finish}
 use Rattle.statement_syntax.specs.declared.statement.Setting.TheVariants.{Pasf}
 use Rattle.redlog_tokens.specs.declared.lexer.Lexeme.{Lexeme}
@@ -51,7 +52,7 @@ second_alone : Lexes (piece_bytes script 12 16) 0 (lexeme finish 0 3 ∷ lexeme 
 unfolding front worded is_word signed
 second_alone = taken {n = 3} refl refl refl (taken {n = 1} refl refl refl over)
 
-first_spells : Spells (piece_bytes script 0 11) (record { action = Choose Pasf; printed = true })
+first_spells : Spells (piece_bytes script 0 11) (record { action = Choose Pasf; printed = true; inner = alone })
 unfolding word_of sign_of groups setting_of
 first_spells = record {
   kinds = set ∷ pasf ∷ mark ∷ [];
@@ -60,7 +61,7 @@ first_spells = record {
   spelled = acting (choose refl) refl;
 }
 
-second_spells : Spells (piece_bytes script 12 16) (record { action = Finish; printed = true })
+second_spells : Spells (piece_bytes script 12 16) (record { action = Finish; printed = true; inner = alone })
 unfolding word_of sign_of groups
 second_spells = record {
   kinds = finish ∷ mark ∷ [];
@@ -84,5 +85,5 @@ second_piece = record { first = lexeme finish 12 15; others = lexeme mark 15 16 
 
 pub some_choice_is_answered : SomeChoiceIsAnswered
 some_choice_is_answered =
-    choices_are_answered script (record { action = Choose Pasf; printed = true } ∷ record { action = Finish; printed = true } ∷ [])
+    choices_are_answered script (record { action = Choose Pasf; printed = true; inner = alone } ∷ record { action = Finish; printed = true; inner = alone } ∷ [])
     (then first_piece first_spells (λ e. absurd (cc)) (last second_piece second_spells refl)) (tt, (tt, tt))

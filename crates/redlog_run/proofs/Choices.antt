@@ -5,6 +5,7 @@ use Rattle.std.specs.declared.alloc.Global.{Global}
 use Rattle.std.specs.declared.vec.Vec.{Vec}
 use denote.RawPtr.{null_ptr}
 use Rattle.formula_meaning.specs.Context.{Context, Fields, Integers}
+use Rattle.qe_syntax.specs.Holes.{alone}
 use Rattle.statement_syntax.specs.Statements.{ActionTree, Empty, Ignored, Finish, Choose, Say, Assign, Assume, Retract, StatementTree}
 use Rattle.redlog_tokens.specs.Pieces.{IsPiece}
 use Rattle.redlog_reader.specs.Statement.{Spells}
@@ -20,7 +21,8 @@ use Rattle.session_meaning.specs.Reply.{Answers, RefusesAction}
 use Rattle.redlog_run.specs.Lines.{newline, lines_of}
 use Rattle.redlog_run.specs.Run as run
 use Rattle.redlog_run.specs.Run.{AnswersPiece, finished, answered, refused, Run, piece_bytes}
-use Rattle.redlog_run.proofs.Unrefused.{never}
+use Rattle.redlog_run.proofs.Unrefused.{never, action_refused}
+use Rattle.redlog_run.proofs.BareStatements.{spelled_alone}
 use Rattle.redlog_run.specs.WithoutFormulas as script
 use Rattle.redlog_run.specs.WithoutFormulas.{SpellsFrom, IsWithoutFormula, choice_line, choice_lines, IsAnsweredOnlyWith, EndingIsAnswered, ChoicesAreAnswered, NoneIsRefused}
 
@@ -139,25 +141,29 @@ module _ (s : State) (limit : ℕ) (piece : List ℕ) (offset : ℕ) (t : Statem
       let a = subst (λ (u : StatementTree). Answers s limit u.printed u.action answer next) (same r.statement r.spelled) r.answered in
       let q = silent s limit t.printed t.action answer next w other a in
       record { ending_is = q.0; lines_are = q.1; unrefused = refl }
-  choice {next = next} (refused e other r) = absurd (never s limit piece t h (λ d more. no_refusal s limit t.printed t.action d w) e next other r)
+  choice {next = next} (refused e other r) = absurd (never s limit piece t h (λ d more k. no_refusal s limit t.printed t.action d w (action_refused s limit t d (spelled_alone piece t h w) k)) e next other r)
+
+-- a statement inside which no command stands
+abbrev plain : Bool → ActionTree → StatementTree
+plain printed a = record { action = a; printed = printed; inner = alone }
 
 -- and there is one
 module _ (s : State) (limit : ℕ) (piece : List ℕ) (offset : ℕ) where
-  line_said : (printed : Bool) (text : List ℕ) (a : ActionTree) (next : State) → length text < 2 ^ 63 → length text ≤ 33554432 → Spells piece (record { action = a; printed = printed })
+  line_said : (printed : Bool) (text : List ℕ) (a : ActionTree) (next : State) → length text < 2 ^ 63 → length text ≤ 33554432 → Spells piece (plain printed a)
       → ((answer : Line) → IsLine printed text answer → Answers s limit printed a answer next) → AnswersPiece s limit piece offset false (if printed then text ++ newline else []) false next
   line_said true text a next small short h answers =
       let bytes = line.Printed (text_of text small) in
-      answered bytes (λ e. absurd (cc)) (record { statement = record { action = a; printed = true }; spelled = h; answered = answers bytes (refl, refl, short) })
+      answered bytes (λ e. absurd (cc)) (record { statement = plain true a; spelled = h; plain = refl; answered = answers bytes (refl, refl, short) })
   line_said false text a next small short h answers =
-      answered line.Nothing (λ e. absurd (cc)) (record { statement = record { action = a; printed = false }; spelled = h; answered = answers line.Nothing refl })
+      answered line.Nothing (λ e. absurd (cc)) (record { statement = plain false a; spelled = h; plain = refl; answered = answers line.Nothing refl })
 
-  nothing_said : (printed : Bool) (a : ActionTree) → Spells piece (record { action = a; printed = printed }) → Answers s limit printed a line.Nothing s → AnswersPiece s limit piece offset false [] false s
-  nothing_said printed a h answers = answered line.Nothing (λ e. absurd (cc)) (record { statement = record { action = a; printed = printed }; spelled = h; answered = answers })
+  nothing_said : (printed : Bool) (a : ActionTree) → Spells piece (plain printed a) → Answers s limit printed a line.Nothing s → AnswersPiece s limit piece offset false [] false s
+  nothing_said printed a h answers = answered line.Nothing (λ e. absurd (cc)) (record { statement = plain printed a; spelled = h; plain = refl; answered = answers })
 
-  made : (printed : Bool) (a : ActionTree) → Spells piece (record { action = a; printed = printed }) → IsWithoutFormula a → AnswersPiece s limit piece offset (ends a) (choice_line printed a) false (after s a)
+  made : (printed : Bool) (a : ActionTree) → Spells piece (plain printed a) → IsWithoutFormula a → AnswersPiece s limit piece offset (ends a) (choice_line printed a) false (after s a)
   made printed Empty h w = nothing_said printed Empty h (refl, refl)
   made printed Ignored h w = nothing_said printed Ignored h (refl, refl)
-  made printed Finish h w = finished (record { statement = record { action = Finish; printed = printed }; spelled = h; answered = (refl, refl) })
+  made printed Finish h w = finished (record { statement = plain printed Finish; spelled = h; plain = refl; answered = (refl, refl) })
   made printed (Choose setting) h w =
       let c = theory_of setting in line_said printed (context_text c) (Choose setting) (chosen s c) (context_small c) (context_short c) h (λ answer l. (l, refl))
   made printed (Say c) h w = absurd w
@@ -180,11 +186,14 @@ module _ (text : List ℕ) {from start end start2 end2 : ℕ} (p : IsPiece text 
 abbrev AreWithoutFormulas : List StatementTree → Type 0
 AreWithoutFormulas ts = AllByRecursion (λ (t : StatementTree). IsWithoutFormula t.action) ts
 
+spelled_plainly : (piece : List ℕ) (t : StatementTree) → Spells piece t → IsWithoutFormula t.action → Spells piece (plain t.printed t.action)
+spelled_plainly piece t h w = subst (λ n. Spells piece (record { action = t.action; printed = t.printed; inner = n })) (spelled_alone piece t h w) h
+
 module _ (limit : ℕ) (text : List ℕ) where
   ending_as : (s : State) (piece : List ℕ) (offset : ℕ) (t : StatementTree) (b : Bool) → ends t.action ≡ b → Spells piece t → IsWithoutFormula t.action
       → AnswersPiece s limit piece offset b (choice_line t.printed t.action) false (after s t.action)
   ending_as s piece offset t b e h w =
-      subst (λ (b : Bool). AnswersPiece s limit piece offset b (choice_line t.printed t.action) false (after s t.action)) e (made s limit piece offset t.printed t.action h w)
+      subst (λ (b : Bool). AnswersPiece s limit piece offset b (choice_line t.printed t.action) false (after s t.action)) e (made s limit piece offset t.printed t.action (spelled_plainly piece t h w) w)
 
   one_run : (s : State) {from : ℕ} {ts : List StatementTree} → SpellsFrom text from ts → AreWithoutFormulas ts → Run limit text from s (choice_lines ts) false
   one_run s (script.over none) w = run.over none

@@ -1,5 +1,5 @@
 -- Statements that end a script.
-use Rattle.std.proofs.Common.{◌≡◌, ℕ, Bool, true, false, List, refl, ap, ◌∙◌, subst}
+use Rattle.std.proofs.Common.{◌≡◌, ℕ, Bool, true, false, List, refl, sym, ap, ◌∙◌, subst}
 use Rattle.statement_syntax.specs.Statements.{ActionTree, Empty, Ignored, Finish, Choose, Say, Assign, Assume, Retract, StatementTree}
 use Rattle.redlog_tokens.specs.Pieces.{IsPiece}
 use Rattle.redlog_tokens.proofs.Cutting.{same_piece}
@@ -10,7 +10,9 @@ use Rattle.session_meaning.specs.declared.line.StatementError.{StatementError}
 use Rattle.session_meaning.specs.State.{State}
 use Rattle.session_meaning.specs.Reply.{Answers, RefusesAction}
 use Rattle.redlog_run.specs.Run.{AnswersPiece, finished, answered, refused, piece_bytes, SpellsFinish, HasEnd, here, later}
-use Rattle.redlog_run.proofs.Unrefused.{never}
+use Rattle.redlog_run.specs.WithoutFormulas.{IsWithoutFormula}
+use Rattle.redlog_run.proofs.Unrefused.{never, action_refused}
+use Rattle.redlog_run.proofs.BareStatements.{spelled_alone}
 
 -- ---- what a piece spells that ends a script or doesn't
 
@@ -39,7 +41,8 @@ module _ (s : State) (limit : ℕ) (piece : List ℕ) (offset : ℕ) where
       let same : r.statement ≡ f.0 = spells_once piece r.statement f.0 r.spelled f.1 in
       other (only_finished s limit r.statement.printed r.statement.action answer next (ap (λ (t : StatementTree). t.action) same ∙ f.2) r.answered)
   spells_no_finish {next = next} (refused cause other r) f =
-      never s limit piece f.0 f.1 (λ d more. unrefused s limit (f.0).printed (f.0).action d f.2) cause next other r
+      let plain = spelled_alone piece f.0 f.1 (subst IsWithoutFormula (sym f.2) tt) in
+      never s limit piece f.0 f.1 (λ d more k. unrefused s limit (f.0).printed (f.0).action d f.2 (action_refused s limit f.0 d plain k)) cause next other r
 
 -- ---- ends of a script
 

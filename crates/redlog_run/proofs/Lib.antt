@@ -1,6 +1,7 @@
 pub mod Claims
 pub mod Replies
 pub mod Unrefused
+pub mod BareStatements
 pub mod Choices
 pub mod ChoiceExample
 pub mod Ending

@@ -1,6 +1,7 @@
 -- A piece that spells a statement which has no cause of a refusal is not refused.
-use Rattle.std.proofs.Common.{◌≡◌, ◌≢◌, ℕ, Bool, true, false, ◌||◌, List, ◌++◌, refl, ap, ◌∙◌, subst}
+use Rattle.std.proofs.Common.{◌≡◌, ◌≢◌, ⊎_elim, ℕ, Bool, true, false, ◌||◌, List, ◌++◌, refl, sym, ap, ◌∙◌, subst}
 use Rattle.std.specs.Prelude.{Err}
+use Rattle.qe_syntax.specs.Holes.{alone, is_some_command}
 use Rattle.statement_syntax.specs.Statements.{StatementTree}
 use Rattle.redlog_reader.specs.Statement.{Spells}
 use Rattle.redlog_tokens.specs.declared.token.ReadError.TheVariants as reading
@@ -8,21 +9,25 @@ use Rattle.redlog_reader.proofs.Whole.{spells_once, not_unread}
 use Rattle.session_meaning.specs.declared.line.StatementError.{StatementError}
 use Rattle.session_meaning.specs.declared.line.StatementError.TheVariants as error
 use Rattle.session_meaning.specs.State.{State}
-use Rattle.session_meaning.specs.Reply.{RefusesAction, SpellsRefused, Reply}
+use Rattle.session_meaning.specs.Reply.{RefusesAction, RefusesStatement, SpellsRefused, Reply}
 use Rattle.redlog_run.specs.Run.{AnswersPiece, finished, answered, refused, Run, over, last, then, RunTo, begin, on, piece_bytes}
 use Rattle.redlog_run.specs.Unrefused.{IsUnrefusedPiece, IsUnrefused}
 use Rattle.redlog_run.specs.NoRefusal.{UnrefusedScriptsHaveNoRefusal}
 
+-- a statement inside which no command stands is refused for its action
+pub action_refused : (s : State) (limit : ℕ) (t : StatementTree) (e : StatementError) → t.inner ≡ alone → RefusesStatement s limit t e → RefusesAction s limit t.printed t.action e
+action_refused s limit t e plain r = ⊎_elim (λ k. k.1) (λ k. let none : false ≡ true = ap is_some_command (sym plain) ∙ k.0 in absurd (cc)) r
+
 module _ (s : State) (limit : ℕ) (piece : List ℕ) (t : StatementTree) (h : Spells piece t)
-    (none : (e : StatementError) → e ≢ error.Memory → RefusesAction s limit t.printed t.action e → ⊥) where
+    (none : (e : StatementError) → e ≢ error.Memory → RefusesStatement s limit t e → ⊥) where
   refused_never : (e : StatementError) → e ≢ error.Memory → SpellsRefused s limit piece e → ⊥
-  refused_never e other r = none e other (subst (λ (u : StatementTree). RefusesAction s limit u.printed u.action e) (spells_once piece r.statement t r.spelled h) r.refused)
+  refused_never e other r = none e other (subst (λ (u : StatementTree). RefusesStatement s limit u e) (spells_once piece r.statement t r.spelled h) r.refused)
 
   pub never : (e : StatementError) (next : State) → e ≢ error.Memory → Reply s limit piece (Err e) next → ⊥
   never error.Long next other r = not_unread piece t reading.Long (λ p. absurd (cc)) h r.1
   never error.Lexical next other r = not_unread piece t reading.Lexical (λ p. absurd (cc)) h r.1
   never error.Nesting next other r = not_unread piece t reading.Nesting (λ p. absurd (cc)) h r.1
-  never error.Syntax next other r = not_unread piece t reading.Syntax (λ p. absurd (cc)) h r.1
+  never error.Syntax next other r = ⊎_elim (not_unread piece t reading.Syntax (λ p. absurd (cc)) h) (refused_never error.Syntax other) r.1
   never error.Memory next other r = other refl
   never e next other r = refused_never e other r.1
 

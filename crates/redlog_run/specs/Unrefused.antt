@@ -6,14 +6,14 @@ use Rattle.redlog_reader.specs.Statement.{Spells}
 use Rattle.session_meaning.specs.declared.line.StatementError.{StatementError}
 use Rattle.session_meaning.specs.declared.line.StatementError.TheVariants as error
 use Rattle.session_meaning.specs.State.{State}
-use Rattle.session_meaning.specs.Reply.{RefusesAction}
+use Rattle.session_meaning.specs.Reply.{RefusesStatement}
 use Rattle.redlog_run.specs.Run.{RunTo, piece_bytes}
 
 -- the piece spells a statement that may not be refused
 pub record IsUnrefusedPiece (s : State) (limit : ℕ) (piece : List ℕ) : Type 0 where
   pub statement : StatementTree
   pub spelled : Spells piece statement
-  pub unrefused : (e : StatementError) → e ≢ error.Memory → ¬ (RefusesAction s limit statement.printed statement.action e)
+  pub unrefused : (e : StatementError) → e ≢ error.Memory → ¬ (RefusesStatement s limit statement e)
 
 -- each piece is such a one, in each state that the pieces before it may leave
 abbrev pub IsUnrefused : ℕ → List ℕ → Type 0
