@@ -21,7 +21,7 @@ use Rattle.farkas_cert.specs.declared.error.CertError.{CertError}
 use Rattle.farkas_cert.specs.declared.error.CertError.TheVariants as cert
 use Rattle.fourier_motzkin.specs.Search.{Certificate, search as search_under}
 use Rattle.certificate_search.specs.Stops.{StopsSearch}
-use Rattle.problem_reading.specs.FromSessionMeaning.{Line, StatementError, HasNoRoom, HasLongLine, HasNone, IsAccepted, IsFirst, constraints_of, constrained_names, Searches, SearchStops, Certifies, IsCertificateAnswer, certificate_text, HasLongCertificate, CheckPasses, IsCheckAnswer, Meaning, OwnCauses, no_causes, stops, of_constraints, meaning, IsLine, State, Use, before, truth_text}
+use Rattle.problem_reading.specs.FromSessionMeaning.{Line, StatementError, HasNoRoom, HasLongLine, HasNone, IsAccepted, IsFirst, constraints_of, constrained_names, Searches, SearchStops, Certifies, IsCertificateAnswer, certificate_text, HasLongCertificate, CheckPasses, IsCheckAnswer, Meaning, OwnCauses, no_causes, stops, of_constraints, meaning, IsLine, State, Use, before, truth_text, known}
 use Rattle.problem_reading.specs.FromSessionMeaning.line_variants as line
 use Rattle.problem_reading.specs.FromSessionMeaning.statement_error_variants as error
 use Rattle.problem_reading.specs.FromCommandTools.{static_refusal, LineFault, use_of, Refuses, IsQueryAnswer}
@@ -119,7 +119,7 @@ module _ (s : State) (written : FormulaTrees) (numbers : AreNumbered s.names wri
   reading_refuses static.CongruenceContext other fields h = absurd (no_formula IsComparison (CongruenceInFields s.context) (no_congruence s.context) written (each_comparison written constraints) h.applies)
   reading_refuses static.Modulus other fields h =
       absurd (no_formula IsComparison (λ g. IsBadModulus s.context (place (names_after s.names g)) g) (λ g. no_modulus s.context (place (names_after s.names g)) g) written (each_comparison written constraints) h.applies)
-  reading_refuses static.Depth other fields h = absurd (no_formula IsComparison (IsTooDeep s.bound) (no_depth s.bound) written (each_comparison written constraints) h.applies)
+  reading_refuses static.Depth other fields h = absurd (no_formula IsComparison (IsTooDeep (known s)) (no_depth (known s)) written (each_comparison written constraints) h.applies)
   reading_refuses static.Overflow other fields h = record { applies = inl (cause_of_reading asked s limit u numbers static.Overflow h.applies other); first = to_overflow (fields refl) h.first }
   reading_refuses static.Memory other fields h = absurd (other refl)
 

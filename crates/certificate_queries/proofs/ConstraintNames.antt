@@ -21,7 +21,7 @@ use Rattle.resolved_formulas.proofs.ResolvedNames.{resolving_brings_no_name}
 use Rattle.fourier_motzkin.specs.Theorems.{AreOver}
 use Rattle.sample_reference.specs.Values.{Value, value_names}
 use Rattle.problem_reading.specs.FromAnswerTexts.{AreValuesWithin}
-use Rattle.problem_reading.specs.FromSessionMeaning.{constrained_names, constraints_of, State}
+use Rattle.problem_reading.specs.FromSessionMeaning.{constrained_names, constraints_of, State, known}
 use Rattle.problem_reading.proofs.FromSessionState.{place_below, variables_in_names}
 use Rattle.problem_reading.specs.Reading.{HasNumbers, IsReadable, AreNumbered, AreReadable}
 use Rattle.certificate_queries.proofs.CauseSteps.{IsComparison, comparison}
@@ -84,10 +84,10 @@ numbered_has names none numbers x i = absurd i
 numbered_has names (also g gs) numbers x i = ⊎_elim (variables_in_names g names numbers.0 x) (numbered_has names gs numbers.1 x) (some_split (λ y. y ≡ x) (formula_variables g) (all_variables gs) i)
 
 -- a number that is free in what a comparison is read as is that of one of its variables
-pub free_named : (s : State) (f : FormulaTree) → IsComparison f → HasNumbers s.names f → IsReadable s f → (n : ℕ) → IsFree (resolve s.context s.bound s.names f) n → (x : List ℕ) × IsIn x (formula_variables f) × (place s.names x ≡ n)
+pub free_named : (s : State) (f : FormulaTree) → IsComparison f → HasNumbers s.names f → IsReadable s f → (n : ℕ) → IsFree (resolve s.context (known s) s.names f) n → (x : List ℕ) × IsIn x (formula_variables f) × (place s.names x ≡ n)
 free_named s f h number readable n free =
-    let there = subst (λ ns. IsFree (resolve s.context s.bound ns f) n → IsFreeInPlace s.bound (place ns) f n) number (resolving_brings_no_name s.context s.bound s.names f readable n) free in
-    let found = subst (λ g. IsFreeInPlace s.bound (place s.names) g n) h.is there in
+    let there = subst (λ ns. IsFree (resolve s.context (known s) ns f) n → IsFreeInPlace (known s) (place ns) f n) number (resolving_brings_no_name s.context (known s) s.names f readable n) free in
+    let found = subst (λ g. IsFreeInPlace (known s) (place s.names) g n) h.is there in
     let mentioned = subst (λ g. IsIn found.0 (formula_variables g)) (sym h.is) (mentioned_have (λ x. IsIn x (formula_variables (One (Compare h.relation h.left h.right)))) (One (Compare h.relation h.left h.right)) (λ x i. i) found.0 found.1) in
     (found.0, mentioned, found.2)
 
@@ -120,7 +120,7 @@ module _ (s : State) (written : FormulaTrees) (numbers : AreNumbered s.names wri
     each_over (also g gs) within number constraints readable =
         let h = comparison g constraints.0 in (
           λ y k.
-              let r = free_named s g h number.0 readable.0 y (constraint_named (resolve s.context s.bound s.names g) (resolved_bound s g fields h) y k) in
+              let r = free_named s g h number.0 readable.0 y (constraint_named (resolve s.context (known s) s.names g) (resolved_bound s g fields h) y k) in
               place_among s.names own r.0 y (within r.0 (in_either r.0 (formula_variables g) (all_variables gs) (inl r.1))) r.2,
           each_over gs (λ x i. within x (in_either x (formula_variables g) (all_variables gs) (inr i))) number.1 constraints.1 readable.1,
         )

@@ -26,7 +26,7 @@ use Rattle.resolved_formulas.specs.Resolving.{resolve, compared}
 use Rattle.formula_tree.specs.Names.{place}
 use Rattle.farkas_theory.specs.Meeting.{Meets}
 use Rattle.farkas_theory.specs.Farkas.{nothing}
-use Rattle.problem_reading.specs.FromSessionMeaning.{tree_constraint, State}
+use Rattle.problem_reading.specs.FromSessionMeaning.{tree_constraint, State, known}
 use Rattle.certificate_queries.proofs.CauseSteps.{IsComparison}
 
 -- ---- bounds
@@ -89,9 +89,9 @@ compared_bound rel (Ok d) h = normal_bound (relation_of rel) d.form (relation_bo
 compared_bound rel (Err e) h = tt
 
 -- a constraint is read as such a tree
-pub resolved_bound : (s : State) (f : FormulaTree) → s.context ≡ Fields → IsComparison f → IsBound (resolve s.context s.bound s.names f)
+pub resolved_bound : (s : State) (f : FormulaTree) → s.context ≡ Fields → IsComparison f → IsBound (resolve s.context (known s) s.names f)
 resolved_bound s f fields h =
-    subst (λ g. IsBound (resolve s.context s.bound s.names g)) (sym h.is)
+    subst (λ g. IsBound (resolve s.context (known s) s.names g)) (sym h.is)
     (subst (λ c. IsBound (compared c h.relation (formed_difference c (place s.names) h.left h.right))) (sym fields) (compared_bound h.relation (formed_difference Fields (place s.names) h.left h.right) h.bounds))
 
 -- ---- truth

@@ -12,7 +12,7 @@ use Rattle.statement_syntax.specs.ConstraintLists.{AreConstraints}
 use Rattle.resolved_formulas.specs.Resolving.{at_names, resolve, bound_truth}
 use Rattle.resolved_formulas.proofs.PlaceLaws.{at_place}
 use Rattle.farkas_theory.specs.Meeting.{MeetsAll}
-use Rattle.problem_reading.specs.FromSessionMeaning.{AllTrueAt, constraints_of, by_names, State}
+use Rattle.problem_reading.specs.FromSessionMeaning.{AllTrueAt, constraints_of, by_names, State, known}
 use Rattle.problem_reading.specs.FromSessionState.{IsSound}
 use Rattle.problem_reading.proofs.FromSessionState.{variables_in_names}
 use Rattle.problem_reading.specs.Reading.{HasNumbers, IsReadable, AreNumbered, AreReadable}
@@ -27,9 +27,9 @@ module _ (s : State) (sound : IsSound s) (fields : s.context ≡ Fields) (p : Po
 
   -- a comparison as it is written, at the point of the names, has the truth of what it is read as
   named_truth : (f : FormulaTree) → IsComparison f → HasNumbers s.names f → IsReadable s f
-      → written.TrueAt (bound_truth s.context s.bound s.names) s.context f (by_names s.names p) ↔ TrueAt s.context (resolve s.context s.bound s.names f) p
+      → written.TrueAt (bound_truth s.context (known s) s.names) s.context f (by_names s.names p) ↔ TrueAt s.context (resolve s.context (known s) s.names f) p
   named_truth f h number readable =
-      let t = resolve s.context s.bound s.names f in
+      let t = resolve s.context (known s) s.names f in
       let there = at_names s.names (by_names s.names p) in
       let agree : AgreeOn (IsFree t) there p = record {
         same_below = refl;
@@ -44,6 +44,6 @@ module _ (s : State) (sound : IsSound s) (fields : s.context ≡ Fields) (p : Po
   true_where_met (also g gs) numbers constraints readable =
       let h = comparison g constraints.0 in
       let one = named_truth g h numbers.0 readable.0 in
-      let met = meets_constraint s.context (resolve s.context s.bound s.names g) (resolved_bound s g fields h) p of in
+      let met = meets_constraint s.context (resolve s.context (known s) s.names g) (resolved_bound s g fields h) p of in
       let rest = true_where_met gs numbers.1 constraints.1 readable.1 in
       (λ k. (met.0 (one.0 k.0), rest.0 k.1), λ k. (one.1 (met.1 k.0), rest.1 k.1))

@@ -11,7 +11,7 @@ use Rattle.resolved_formulas.specs.Resolving.{all_variables}
 use Rattle.resolved_formulas.proofs.PlaceLaws.{after_has, after_distinct}
 use Rattle.problem_reading.specs.FromFormulaResolving.{Grows}
 use Rattle.problem_reading.specs.FromSessionMeaning.{Line, StatementError, State, with_names}
-use Rattle.problem_reading.specs.FromSessionState.{SessionState, state_of, IsSessionState, KeepsState}
+use Rattle.problem_reading.specs.FromSessionState.{SessionState, state_of, HasIds, IsSessionState, KeepsState}
 use Rattle.problem_reading.proofs.FromSessionState.{state_parts, same_state, same_session, sound_with, length_grows, AllVariables, variables_of_all, all_put_in}
 use Rattle.problem_reading.specs.FromCommandTools.{use_of, Refuses, IsQueryAnswer}
 use Rattle.problem_reading.specs.Reading.{AreNumbered}
@@ -21,18 +21,21 @@ module _ (state : SessionState) (names : List (List ℕ)) (written : FormulaTree
     (is : names ≡ fold with_name state.names (all_variables written)) (proper : AreWritableFormulas written) where
   -- the state where the variables of the constraints have their numbers
   abbrev pub named_session : SessionState
-  named_session = record { alloc = state.alloc; context = state.context; names = names; bindings = state.bindings; standing = state.standing; store = state.store; kept = state.kept }
+  named_session = record { alloc = state.alloc; context = state.context; names = names; bindings = state.bindings; standing = state.standing; answers = state.answers; store = state.store; kept = state.kept }
 
   -- the same as a state of statements
   abbrev pub named_state : State
   named_state = with_names (state_of state) (fold with_name state.names (all_variables written ++ []))
 
   start : state_of named_session ≡ named_state
-  start = state_parts _ _ _ _ _ _ _ _ refl (is ∙ ap (λ xs. fold with_name state.names xs) (sym (append-nil (all_variables written)))) refl refl
+  start = state_parts _ _ _ _ _ _ _ _ _ _ refl (is ∙ ap (λ xs. fold with_name state.names xs) (sym (append-nil (all_variables written)))) refl refl refl
+
+  ids_named : HasIds named_session
+  ids_named = record { bound = h.ids.bound; answers = h.ids.answers }
 
   pub session_named : IsSessionState named_session
   session_named = record {
-    ids = h.ids;
+    ids = ids_named;
     bound_once = h.bound_once;
     sound = sound_with (state_of state) names h.sound (subst (λ ms. IsDistinct same_name ms) (sym is) (after_distinct (all_variables written) state.names h.sound.names_once))
         (subst AllVariables (sym is) (all_put_in state.names (all_variables written) h.sound.variables (variables_of_all written proper)))
@@ -61,5 +64,5 @@ module _ (state : SessionState) (names : List (List ℕ)) (written : FormulaTree
     state_later = go r
       where
         go : (q : Result T StatementError) → OnOk q (state_of later ≡ named_state)
-        go (Ok x) = same_state named_session later h.ids k ∙ start
+        go (Ok x) = same_state named_session later ids_named k ∙ start
         go (Err e) = tt

@@ -1,7 +1,7 @@
 -- What a command is refused and answered with, by its meaning.
 use Rattle.std.specs.Prelude.{◌≡◌, ◌≢◌, ℕ, List, Bool, Option, Some, None}
 use Rattle.formula_meaning.specs.Tree.{Tree}
-use Rattle.statement_syntax.specs.Statements.{CommandTree, ActionTree, Empty, Ignored, Finish, Choose, Say, Assign, Assume, Retract, StatementTree}
+use Rattle.statement_syntax.specs.Statements.{CommandTree, ActionTree, Empty, Ignored, Finish, Choose, Say, Assign, Assume, Retract}
 use Rattle.shared_forms.specs.FromSessionMeaning.{Line, StatementError, State, with_names, with_bound, meaning, MayGive, GivesFormula, Use, formula_line, IsTooLarge, IsAccepted, IsFirst, IsLine, Tells, RefusesAction}
 use Rattle.shared_forms.specs.FromSessionMeaning.statement_error_variants as error
 
@@ -13,9 +13,9 @@ use_of target printed = record { target = target; printed = printed }
 abbrev pub Refuses : State → ℕ → Use → CommandTree → StatementError → Type 0
 Refuses s limit u c e = e ≢ error.Memory → IsFirst (meaning c) s limit u e
 
--- why a statement is not answered; of want of memory nothing is said
-abbrev pub IsStopped : State → ℕ → StatementTree → StatementError → Type 0
-IsStopped s limit t e = e ≢ error.Memory → RefusesAction s limit t.printed t.action e
+-- why an action is not answered; of want of memory nothing is said
+abbrev pub IsStopped : State → ℕ → Bool → ActionTree → StatementError → Type 0
+IsStopped s limit printed a e = e ≢ error.Memory → RefusesAction s limit printed a e
 
 -- the state after a formula was answered
 abbrev pub state_with : State → Option (List ℕ) → Tree → State

@@ -9,9 +9,11 @@ use Rattle.qe_syntax.specs.declared.tree.Formula.TheVariants as formula
 use Rattle.qe_syntax.specs.declared.tree.Formula.TheOpen as layer
 use Rattle.qe_syntax.specs.declared.tree.Formulas as writtens
 use Rattle.qe_syntax.specs.declared.tree.InnerCommand as commands
-use Rattle.qe_syntax.specs.Trees.{WrittenAtom, Compare, Cong, Ncong, Bound, FormulaTree, FormulaTrees, formulas_of}
+use Rattle.qe_syntax.specs.Trees.{TermTree, TermTrees, Number, Named, Sum, Product, Quotient, Power, Negative, none, also, WrittenAtom, Compare, Cong, Ncong, Bound, FormulaTree, FormulaTrees, formulas_of}
 use Rattle.qe_syntax.specs.Holes.{Holed, hole, command_count, all_of}
 use Rattle.qe_syntax.specs.CodeTrees.{whole_formula, formula_tree, formula_trees, named_tree, named_trees, inner_of}
+use Rattle.qe_syntax.specs.Proper.{IsTermOver, AreTermsOver, IsFormulaOver, AreFormulasOver, AreFormulas, IsAnyName, IsProperTerm, AreProperTerms, IsProperFormula, AreProperFormulas}
+use Rattle.qe_syntax.specs.Valued.{prefix_of, IsUnquantified}
 use Rattle.resolved_formulas.specs.Resolving.{formula_variables, all_variables}
 use Rattle.qe_syntax.proofs.TreeEquations.{
   formula-True,
@@ -165,3 +167,140 @@ mutual
 -- so the variables are the same
 pub variables_named : (f : written.Formula) (k : ℕ) → formula_variables (named_tree k f) ≡ formula_variables (formula_tree f)
 variables_named f k = sym (variables_emptied (named_tree k f)) ∙ ap formula_variables (same_but f k) ∙ variables_emptied (formula_tree f)
+
+-- ---- the quantifiers with which a formula begins
+
+prefix_emptied : (f : FormulaTree) → prefix_of (emptied f) ≡ prefix_of f
+prefix_emptied plain.Yes = refl
+prefix_emptied plain.No = refl
+prefix_emptied (One (Compare rel s t)) = refl
+prefix_emptied (One (Cong s t m)) = refl
+prefix_emptied (One (Ncong s t m)) = refl
+prefix_emptied (One (Bound x)) = refl
+prefix_emptied (plain.Not f) = refl
+prefix_emptied (plain.And fs) = refl
+prefix_emptied (plain.Or fs) = refl
+prefix_emptied (plain.Impl f g) = refl
+prefix_emptied (plain.Repl f g) = refl
+prefix_emptied (plain.Equiv f g) = refl
+prefix_emptied (plain.Ex x f) = ap (λ xs. x ∷ xs) (prefix_emptied f)
+prefix_emptied (plain.All x f) = ap (λ xs. x ∷ xs) (prefix_emptied f)
+
+-- names in the holes leave the quantifiers at its head
+pub prefix_named : (f : written.Formula) (k : ℕ) → prefix_of (named_tree k f) ≡ prefix_of (formula_tree f)
+prefix_named f k = sym (prefix_emptied (named_tree k f)) ∙ ap prefix_of (same_but f k) ∙ prefix_emptied (formula_tree f)
+
+emptied_unquantified : (f : FormulaTree) → IsUnquantified f → IsUnquantified (emptied f)
+emptied_unquantified plain.Yes h = tt
+emptied_unquantified plain.No h = tt
+emptied_unquantified (One (Compare rel s t)) h = tt
+emptied_unquantified (One (Cong s t m)) h = tt
+emptied_unquantified (One (Ncong s t m)) h = tt
+emptied_unquantified (One (Bound x)) h = tt
+emptied_unquantified (plain.Not f) h = tt
+emptied_unquantified (plain.And fs) h = tt
+emptied_unquantified (plain.Or fs) h = tt
+emptied_unquantified (plain.Impl f g) h = tt
+emptied_unquantified (plain.Repl f g) h = tt
+emptied_unquantified (plain.Equiv f g) h = tt
+emptied_unquantified (plain.Ex x f) h = h
+emptied_unquantified (plain.All x f) h = h
+
+filled_unquantified : (f : FormulaTree) → IsUnquantified (emptied f) → IsUnquantified f
+filled_unquantified plain.Yes h = tt
+filled_unquantified plain.No h = tt
+filled_unquantified (One (Compare rel s t)) h = tt
+filled_unquantified (One (Cong s t m)) h = tt
+filled_unquantified (One (Ncong s t m)) h = tt
+filled_unquantified (One (Bound x)) h = tt
+filled_unquantified (plain.Not f) h = tt
+filled_unquantified (plain.And fs) h = tt
+filled_unquantified (plain.Or fs) h = tt
+filled_unquantified (plain.Impl f g) h = tt
+filled_unquantified (plain.Repl f g) h = tt
+filled_unquantified (plain.Equiv f g) h = tt
+filled_unquantified (plain.Ex x f) h = h
+filled_unquantified (plain.All x f) h = h
+
+pub unquantified_named : (f : written.Formula) (k : ℕ) → IsUnquantified (formula_tree f) → IsUnquantified (named_tree k f)
+unquantified_named f k h = filled_unquantified (named_tree k f) (subst IsUnquantified (sym (same_but f k)) (emptied_unquantified (formula_tree f) h))
+
+-- ---- what is proper
+
+emptied_list : (fs : FormulaTrees) → AreFormulas fs → AreFormulas (all_emptied fs)
+emptied_list plain.none h = h
+emptied_list (plain.also f plain.none) h = h
+emptied_list (plain.also f (plain.also g fs)) h = tt
+
+module _ (K : List ℕ → Type 0) where
+  mutual
+    -- a term over some names is one over any
+    proper_term : (t : TermTree) → IsTermOver K t → IsProperTerm t
+    proper_term (Number n) h = h
+    proper_term (Named x) h = tt
+    proper_term (Sum ts) h = (h.0, proper_terms ts h.1)
+    proper_term (Product ts) h = (h.0, proper_terms ts h.1)
+    proper_term (Quotient s t) h = (proper_term s h.0, proper_term t h.1)
+    proper_term (Power t n) h = (proper_term t h.0, h.1)
+    proper_term (Negative t) h = proper_term t h
+
+    proper_terms : (ts : TermTrees) → AreTermsOver K ts → AreProperTerms ts
+    proper_terms none h = tt
+    proper_terms (also t ts) h = (proper_term t h.0, proper_terms ts h.1)
+
+  mutual
+    -- a formula over some names is proper, and with its names emptied
+    emptied_proper : (f : FormulaTree) → IsFormulaOver K f → IsProperFormula (emptied f)
+    emptied_proper plain.Yes h = tt
+    emptied_proper plain.No h = tt
+    emptied_proper (One (Compare rel s t)) h = (proper_term s h.0, proper_term t h.1)
+    emptied_proper (One (Cong s t m)) h = (proper_term s h.0, proper_term t h.1, proper_term m h.2)
+    emptied_proper (One (Ncong s t m)) h = (proper_term s h.0, proper_term t h.1, proper_term m h.2)
+    emptied_proper (One (Bound x)) h = tt
+    emptied_proper (plain.Not f) h = emptied_proper f h
+    emptied_proper (plain.And fs) h = (emptied_list fs h.0, all_emptied_proper fs h.1)
+    emptied_proper (plain.Or fs) h = (emptied_list fs h.0, all_emptied_proper fs h.1)
+    emptied_proper (plain.Impl f g) h = (emptied_proper f h.0, emptied_proper g h.1)
+    emptied_proper (plain.Repl f g) h = (emptied_proper f h.0, emptied_proper g h.1)
+    emptied_proper (plain.Equiv f g) h = (emptied_proper f h.0, emptied_proper g h.1)
+    emptied_proper (plain.Ex x f) h = (tt, emptied_proper f h.1)
+    emptied_proper (plain.All x f) h = (tt, emptied_proper f h.1)
+
+    all_emptied_proper : (fs : FormulaTrees) → AreFormulasOver K fs → AreProperFormulas (all_emptied fs)
+    all_emptied_proper plain.none h = tt
+    all_emptied_proper (plain.also f fs) h = (emptied_proper f h.0, all_emptied_proper fs h.1)
+
+filled_list : (fs : FormulaTrees) → AreFormulas (all_emptied fs) → AreFormulas fs
+filled_list plain.none h = h
+filled_list (plain.also f plain.none) h = h
+filled_list (plain.also f (plain.also g fs)) h = tt
+
+mutual
+  -- what is proper without the names that stand as formulas is proper with them
+  filled_proper : (f : FormulaTree) → IsProperFormula (emptied f) → IsProperFormula f
+  filled_proper plain.Yes h = tt
+  filled_proper plain.No h = tt
+  filled_proper (One (Compare rel s t)) h = h
+  filled_proper (One (Cong s t m)) h = h
+  filled_proper (One (Ncong s t m)) h = h
+  filled_proper (One (Bound x)) h = tt
+  filled_proper (plain.Not f) h = filled_proper f h
+  filled_proper (plain.And fs) h = (filled_list fs h.0, all_filled_proper fs h.1)
+  filled_proper (plain.Or fs) h = (filled_list fs h.0, all_filled_proper fs h.1)
+  filled_proper (plain.Impl f g) h = (filled_proper f h.0, filled_proper g h.1)
+  filled_proper (plain.Repl f g) h = (filled_proper f h.0, filled_proper g h.1)
+  filled_proper (plain.Equiv f g) h = (filled_proper f h.0, filled_proper g h.1)
+  filled_proper (plain.Ex x f) h = (tt, filled_proper f h.1)
+  filled_proper (plain.All x f) h = (tt, filled_proper f h.1)
+
+  all_filled_proper : (fs : FormulaTrees) → AreProperFormulas (all_emptied fs) → AreProperFormulas fs
+  all_filled_proper plain.none h = tt
+  all_filled_proper (plain.also f fs) h = (filled_proper f h.0, all_filled_proper fs h.1)
+
+-- a formula that is over some names, with names in its holes, is proper
+pub named_proper : (K : List ℕ → Type 0) (f : written.Formula) (k : ℕ) → IsFormulaOver K (named_tree k f) → IsProperFormula (formula_tree f)
+named_proper K f k h = filled_proper (formula_tree f) (subst IsProperFormula (same_but f k) (emptied_proper K (named_tree k f) h))
+
+-- so is one that is proper with them
+pub proper_named : (f : written.Formula) (k : ℕ) → IsProperFormula (named_tree k f) → IsProperFormula (formula_tree f)
+proper_named f k h = named_proper IsAnyName f k h

@@ -11,7 +11,7 @@ mod resolving;
 mod steps;
 
 pub use error::StaticError;
-pub use numbering::number_formula;
+pub use numbering::{bound_formula, number_formula};
 pub use parts::{Members, Pair, Part};
 pub use plain::{PlainId, PlainMaker};
 pub use resolving::linearise;

@@ -12,7 +12,7 @@ use formula_tree::{Bindings, Names, NamesError};
 use qe_syntax::{Formula, Name, Term};
 
 /// What is bound to a name, which has at most 64 bytes; `None` exactly where nothing is.
-pub(crate) fn bound_formula<Id: Copy>(name: &Name, bound: &Bindings<Id>) -> Option<Id>
+pub fn bound_formula<Id: Copy>(name: &Name, bound: &Bindings<Id>) -> Option<Id>
     ensures bound { result ≡ bound_to bound.now name.now }
     ensures short { length name.now ≤ 64 }
 {

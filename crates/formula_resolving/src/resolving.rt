@@ -1,4 +1,4 @@
-ghost use Rattle.std.specs.Prelude.{◌≡◌, length, IfOk, IfErr, OnOk, OnErr};
+ghost use Rattle.std.specs.Prelude.{◌≡◌, ◌≤◌, length, IfOk, IfErr, OnOk, OnErr};
 ghost use Rattle.std.specs.List.{AllByRecursion};
 ghost use Rattle.qe_syntax.specs.Proper.{IsProperFormula};
 ghost use Rattle.qe_syntax.specs.Holes.{command_count};
@@ -21,8 +21,8 @@ use qe_syntax::Formula;
 use std::alloc::Global;
 
 /// The resolved formula: bound names by their trees, each comparison and congruence by its normal atom, and each command inside
-/// the formula by the tree of its answer, where `inner` has the answers in the order of the text; nothing else inside a command
-/// is looked at. The new variables get the next numbers, in the order of the text. The first cause of a refusal is answered,
+/// the formula by the tree of its answer, where `inner` has the answers of the commands in the order of the text, and maybe
+/// more; nothing else inside a command is looked at. The new variables get the next numbers, in the order of the text. The first cause of a refusal is answered,
 /// else `Memory`; then the names are as before, and formulas may have been made that nothing needs.
 pub fn linearise<M: Maker>(
     alloc: Global,
@@ -36,7 +36,7 @@ pub fn linearise<M: Maker>(
     requires proper { IsProperFormula (formula_tree formula.now) }
     requires ids { AreIds (M.is_id maker.old) bound.now }
     requires answers { AllByRecursion (M.is_id maker.old) inner.now }
-    requires places { length inner.now ≡ command_count (inner_of formula.now) }
+    requires places { command_count (inner_of formula.now) ≤ length inner.now }
     ensures accepted { OnOk result (IsAccepted (context_of context) (answered_trees (M.tree maker.old) inner.now bound.now) names.old (named_tree 0 formula.now)) }
     ensures resolved { IfOk result (λ id. IsMade (M.is_id maker.new) (M.tree maker.new) id (resolve (context_of context) (answered_trees (M.tree maker.old) inner.now bound.now) (names_after names.old (named_tree 0 formula.now)) (named_tree 0 formula.now))) }
     ensures names { OnOk result (names.new ≡ names_after names.old (named_tree 0 formula.now)) }
@@ -68,7 +68,7 @@ fn resolved<M: Maker>(
     requires proper { IsProperFormula (formula_tree formula.now) }
     requires ids { AreIds (M.is_id maker.old) bound.now }
     requires answers { AllByRecursion (M.is_id maker.old) inner.now }
-    requires places { length inner.now ≡ command_count (inner_of formula.now) }
+    requires places { command_count (inner_of formula.now) ≤ length inner.now }
     ensures accepted { OnOk result (IsAccepted (context_of context) (answered_trees (M.tree maker.old) inner.now bound.now) names.old (named_tree 0 formula.now)) }
     ensures resolved { IfOk result (λ id. IsMade (M.is_id maker.new) (M.tree maker.new) id (resolve (context_of context) (answered_trees (M.tree maker.old) inner.now bound.now) (names_after names.old (named_tree 0 formula.now)) (named_tree 0 formula.now))) }
     ensures names { OnOk result (names.new ≡ names_after names.old (named_tree 0 formula.now)) }

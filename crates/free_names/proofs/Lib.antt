@@ -3,4 +3,4 @@ pub mod Scopes
 pub mod Lists
 pub mod Nodes
 pub mod Parts
-pub mod Wholes
+pub mod Named

@@ -3,4 +3,3 @@ pub mod Scopes
 pub mod Missing
 pub mod Places
 pub mod FromFormulaResolving
-pub mod Whole

@@ -11,15 +11,15 @@ use Rattle.resolved_formulas.specs.Resolving.{IsFreeInPlace, MentionsNumber}
 use Rattle.formula_tree.specs.Names.{place}
 use Rattle.formula_store.specs.declared.id.FormulaId.{FormulaId}
 use Rattle.formula_store.specs.Nodes.{tree}
-use Rattle.formula_resolving.specs.BoundIds.{trees_bound}
+use Rattle.formula_resolving.specs.BoundIds.{answered_trees}
 
--- the number is free in the formula with the bound formulas of the store in their places
-abbrev pub IsFreeHere : List (Shape FormulaId) → List (List ℕ × FormulaId) → List (List ℕ) → FormulaTree → ℕ → Type 0
-IsFreeHere nodes bound names f n = IsFreeInPlace (trees_bound (tree nodes) bound) (place names) f n
+-- the number is free in the formula with the bound formulas and the answers, both of the store, in their places
+abbrev pub IsFreeHere : List (Shape FormulaId) → List FormulaId → List (List ℕ × FormulaId) → List (List ℕ) → FormulaTree → ℕ → Type 0
+IsFreeHere nodes inner bound names f n = IsFreeInPlace (answered_trees (tree nodes) inner bound) (place names) f n
 
 -- the number is free in some of the formulas
-abbrev pub AreFreeHere : List (Shape FormulaId) → List (List ℕ × FormulaId) → List (List ℕ) → FormulaTrees → ℕ → Type 0
-AreFreeHere nodes bound names fs n = FreeInSome (MentionsNumber (trees_bound (tree nodes) bound) (place names)) (all_replaced One (place names) fs) n
+abbrev pub AreFreeHere : List (Shape FormulaId) → List FormulaId → List (List ℕ × FormulaId) → List (List ℕ) → FormulaTrees → ℕ → Type 0
+AreFreeHere nodes inner bound names fs n = FreeInSome (MentionsNumber (answered_trees (tree nodes) inner bound) (place names)) (all_replaced One (place names) fs) n
 
 -- whether an entry has the number, or a quantifier around
 abbrev pub in_scope : BTreeSet ℕ → BTreeSet ℕ → ℕ → Bool

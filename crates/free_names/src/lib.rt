@@ -1,4 +1,4 @@
-//! Which numbers are free in a written formula, with the bound formulas in their places.
+//! Which numbers are free in a written formula, with the bound formulas and the answers of its commands in their places.
 #![tactic(auto)]
 
 mod missing;

@@ -1,66 +1,135 @@
 //! Whether a quantifier stands in a formula.
 
-ghost use Rattle.std.specs.Prelude.{◌≡◌, map};
+ghost use Rattle.std.specs.Prelude.{◌≡◌, ◌≤◌, ◌<◌, ◌+◌, ◌||◌, ℕ, List, length, map, false};
+ghost use Rattle.std.specs.List.{AllByRecursion};
 ghost use Rattle.formula_meaning.specs.Replaced.{replaced, all_replaced};
-ghost use Rattle.qe_syntax.specs.Trees.{formulas_of, Bound};
-ghost use Rattle.qe_syntax.specs.CodeTrees.{formula_tree};
+ghost use Rattle.qe_syntax.specs.Trees.{Bound};
+ghost use Rattle.qe_syntax.specs.Holes.{command_count, inner_name, all_of};
+ghost use Rattle.qe_syntax.specs.CodeTrees.{whole_formula, named_tree, inner_of};
 ghost use Rattle.resolved_formulas.specs.Causes.{atom_in_place};
 ghost use Rattle.formula_tree.specs.Quantified.{has_quantifier, some_quantifier};
+ghost use Rattle.formula_store.specs.declared.id.FormulaId.{FormulaId};
 ghost use Rattle.formula_store.specs.Nodes.{tree, IsId};
-ghost use Rattle.formula_resolving.specs.BoundIds.{AreIds, trees_bound};
-ghost use Rattle.free_names.specs.Whole.{IsWhole, AreWhole};
+ghost use Rattle.formula_resolving.specs.BoundIds.{AreIds, answered_trees};
 
+use formula_resolving::bound_formula;
 use formula_store::{FormulaId, Store};
 use formula_tree::Bindings;
 use qe_syntax::{Formula, Name};
 
-/// Whether a quantifier stands in the formula, with the bound formulas in their places. No command may stand in it. It takes
-/// no memory.
-#[tactic(auto, using(qe_syntax::proofs::TreeEquations::trees))]
-#[cycle(quantified)]
-pub fn is_quantified(formula: &Formula, bound: &Bindings<FormulaId>, store: &Store) -> bool
-    requires whole { IsWhole (formula_tree formula.now) }
+/// Whether a quantifier stands in the formula, with the bound formulas and the answers in their places. `inner` has the
+/// answers of the commands inside the formula, in the order of the text. It takes no memory.
+pub fn is_quantified(
+    formula: &Formula,
+    bound: &Bindings<FormulaId>,
+    inner: &[FormulaId],
+    store: &Store,
+) -> bool
     requires ids { AreIds (IsId store.now) bound.now }
-    ensures { result ≡ has_quantifier (replaced (atom_in_place (trees_bound (tree store.now) bound.now)) (λ x. 0) (formula_tree formula.now)) }
+    requires answers { AllByRecursion (IsId store.now) inner.now }
+    requires places { command_count (inner_of formula.now) ≤ length inner.now }
+    ensures { result ≡ has_quantifier (replaced (atom_in_place (answered_trees (tree store.now) inner.now bound.now)) (λ x. 0) (named_tree 0 formula.now)) }
+{
+    let mut taken = 0;
+    in_formula(formula, bound, inner, &mut taken, store)
+}
+
+/// Whether a quantifier stands in the formula, with the answers from the place `taken` on. Where none does, these are taken.
+#[tactic(auto, using(qe_syntax::proofs::TreeEquations::trees, qe_syntax::proofs::TreeEquations::inners, qe_syntax::proofs::TreeEquations::nameds))]
+#[cycle(quantified)]
+fn in_formula(
+    formula: &Formula,
+    bound: &Bindings<FormulaId>,
+    inner: &[FormulaId],
+    taken: &mut usize,
+    store: &Store,
+) -> bool
+    requires ids { AreIds (IsId store.now) bound.now }
+    requires answers { AllByRecursion (IsId store.now) inner.now }
+    requires room { taken.old + command_count (inner_of formula.now) ≤ length inner.now }
+    ensures found { result ≡ has_quantifier (replaced (atom_in_place (answered_trees (tree store.now) inner.now bound.now)) (λ x. 0) (named_tree taken.old formula.now)) }
+    ensures taken { result ≡ false → taken.new ≡ taken.old + command_count (inner_of formula.now) }
 {
     match formula {
         Formula::True | Formula::False | Formula::Compare(..) => false,
         Formula::Cong(..) | Formula::Ncong(..) => false,
-        Formula::Named(name) => is_name_quantified(name, bound, store),
-        Formula::Not(inner) => is_quantified(inner, bound, store),
+        Formula::Named(name) => in_name(name, bound, store),
+        Formula::Computed(_) => in_answer(inner, taken, store),
+        Formula::Not(negated) => in_formula(negated, bound, inner, taken, store),
         Formula::And(members) | Formula::Or(members) => {
-            is_some_quantified(members.items(), bound, store)
+            in_formulas(members.items(), bound, inner, taken, store)
         }
         Formula::Impl(left, right) | Formula::Repl(left, right) | Formula::Equiv(left, right) => {
-            is_quantified(left, bound, store) || is_quantified(right, bound, store)
+            in_pair(left, right, bound, inner, taken, store)
         }
         Formula::Ex(..) | Formula::All(..) => true,
-        Formula::Computed(_) => unreachable!(),
     }
+}
+
+/// Whether a quantifier stands in one of two formulas.
+#[cycle(quantified)]
+fn in_pair(
+    left: &Formula,
+    right: &Formula,
+    bound: &Bindings<FormulaId>,
+    inner: &[FormulaId],
+    taken: &mut usize,
+    store: &Store,
+) -> bool
+    requires ids { AreIds (IsId store.now) bound.now }
+    requires answers { AllByRecursion (IsId store.now) inner.now }
+    requires room { taken.old + (command_count (inner_of left.now) + command_count (inner_of right.now)) ≤ length inner.now }
+    ensures found { result ≡ (has_quantifier (replaced (atom_in_place (answered_trees (tree store.now) inner.now bound.now)) (λ x. 0) (named_tree taken.old left.now)) || has_quantifier (replaced (atom_in_place (answered_trees (tree store.now) inner.now bound.now)) (λ x. 0) (named_tree (taken.old + command_count (inner_of left.now)) right.now))) }
+    ensures taken { result ≡ false → taken.new ≡ taken.old + (command_count (inner_of left.now) + command_count (inner_of right.now)) }
+{
+    if in_formula(left, bound, inner, taken, store) {
+        return true;
+    }
+    in_formula(right, bound, inner, taken, store)
 }
 
 /// Whether a quantifier stands in some of the formulas.
 #[cycle(quantified)]
-fn is_some_quantified(formulas: &[Formula], bound: &Bindings<FormulaId>, store: &Store) -> bool
-    requires whole { AreWhole (formulas_of (map formula_tree formulas.now)) }
+fn in_formulas(
+    formulas: &[Formula],
+    bound: &Bindings<FormulaId>,
+    inner: &[FormulaId],
+    taken: &mut usize,
+    store: &Store,
+) -> bool
     requires ids { AreIds (IsId store.now) bound.now }
-    ensures { result ≡ some_quantifier (all_replaced (atom_in_place (trees_bound (tree store.now) bound.now)) (λ x. 0) (formulas_of (map formula_tree formulas.now))) }
+    requires answers { AllByRecursion (IsId store.now) inner.now }
+    requires room { taken.old + command_count (all_of (map whole_formula formulas.now)).inner ≤ length inner.now }
+    ensures found { result ≡ some_quantifier (all_replaced (atom_in_place (answered_trees (tree store.now) inner.now bound.now)) (λ x. 0) ((all_of (map whole_formula formulas.now)).named taken.old)) }
+    ensures taken { result ≡ false → taken.new ≡ taken.old + command_count (all_of (map whole_formula formulas.now)).inner }
 {
     for formula in formulas {
-        if is_quantified(formula, bound, store) {
+        if in_formula(formula, bound, inner, taken, store) {
             return true;
         }
     }
     false
 }
 
-/// Whether a quantifier stands in the formula that is bound to the name.
-fn is_name_quantified(name: &Name, bound: &Bindings<FormulaId>, store: &Store) -> bool
+/// Whether a quantifier stands in the formula that is bound to the name, whatever the answers are.
+fn in_name(name: &Name, bound: &Bindings<FormulaId>, store: &Store) -> bool
     requires { AreIds (IsId store.now) bound.now }
-    ensures { result ≡ has_quantifier (atom_in_place (trees_bound (tree store.now) bound.now) (Bound name.now)) }
+    ensures { (inner : List FormulaId) → result ≡ has_quantifier (atom_in_place (answered_trees (tree store.now) inner bound.now) (Bound name.now)) }
 {
-    match bound.get(name) {
+    match bound_formula(name, bound) {
         Some(id) => store.facts(id).quantified,
         None => false,
     }
+}
+
+/// Whether a quantifier stands in the next answer, which is taken.
+fn in_answer(inner: &[FormulaId], taken: &mut usize, store: &Store) -> bool
+    requires answers { AllByRecursion (IsId store.now) inner.now }
+    requires room { taken.old < length inner.now }
+    ensures found { (bound : List (List ℕ × FormulaId)) → result ≡ has_quantifier (atom_in_place (answered_trees (tree store.now) inner.now bound) (Bound (inner_name taken.old))) }
+    ensures taken { taken.new ≡ taken.old + 1 }
+{
+    let id = inner[*taken];
+    *taken += 1;
+    store.facts(id).quantified
 }

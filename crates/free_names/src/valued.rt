@@ -1,70 +1,77 @@
 //! Whether each free number of a formula has an entry.
 
-ghost use Rattle.std.specs.Prelude.{◌≡◌, ◌↔◌, ℕ, List, map, IsTrue, IfOk, OnOk};
+ghost use Rattle.std.specs.Prelude.{◌≡◌, ◌≤◌, ◌<◌, ◌+◌, ◌⊎◌, ◌↔◌, ℕ, length, map, true, IsTrue, IfOk, OnOk};
 ghost use Rattle.std.specs.Bool.{MatchBool};
+ghost use Rattle.std.specs.List.{AllByRecursion};
 ghost use Rattle.std.specs.Ordering.{nat_cmp};
 ghost use Rattle.std.specs.BTreeSet.{contains, IsSameSet};
-ghost use Rattle.formula_meaning.specs.Every.{FreeInSome};
-ghost use Rattle.formula_meaning.specs.Formula.{One};
-ghost use Rattle.formula_meaning.specs.Replaced.{all_replaced};
-ghost use Rattle.qe_syntax.specs.Trees.{terms_of, formulas_of, Bound};
-ghost use Rattle.qe_syntax.specs.CodeTrees.{term_tree, formula_tree};
+ghost use Rattle.formula_meaning.specs.Tree.{IsFree};
+ghost use Rattle.qe_syntax.specs.Trees.{terms_of, Bound};
+ghost use Rattle.qe_syntax.specs.Holes.{command_count, inner_name, all_of};
+ghost use Rattle.qe_syntax.specs.CodeTrees.{term_tree, whole_formula, formula_tree, named_tree, inner_of};
 ghost use Rattle.qe_syntax.specs.Value.{HasName, HaveName};
-ghost use Rattle.qe_syntax.specs.Valued.{prefix_of, IsUnquantified};
+ghost use Rattle.qe_syntax.specs.Valued.{prefix_of, matrix_of, IsUnquantified};
 ghost use Rattle.resolved_formulas.specs.Resolving.{IsFreeInPlace, MentionsNumber};
 ghost use Rattle.formula_tree.specs.Names.{place};
 ghost use Rattle.formula_store.specs.Nodes.{tree, IsId};
-ghost use Rattle.formula_resolving.specs.BoundIds.{AreIds, trees_bound};
+ghost use Rattle.formula_resolving.specs.BoundIds.{AreIds, answered_trees};
 ghost use Rattle.free_names.specs.Entries.{HasEntryAt};
 ghost use Rattle.free_names.specs.Missing.{IsSound};
 ghost use Rattle.free_names.specs.Places.{IsFreeHere, AreFreeHere, in_scope, name_in_scope};
-ghost use Rattle.free_names.specs.Whole.{IsWhole, AreWhole};
 ghost use Rattle.free_names.specs.Scopes.{AreAmong, IsIn, IsOpened, IsClosed};
 
 use crate::missing::{Table, look_into, numbers};
+use formula_resolving::bound_formula;
 use formula_store::{FormulaId, Store};
 use formula_tree::{Bindings, Names};
-use qe_syntax::{Formula, Name, PointEntry, Term, matrix};
+use qe_syntax::{Formula, Name, PointEntry, Term};
 use std::alloc::{AllocError, Global};
 use std::collections::{BTreeSet, HashMap};
 
-/// What a formula is searched with: the numbers that have an entry, and what names stand for.
+/// What a formula is searched with: the numbers that have an entry, what names stand for, and the answers of the commands
+/// inside the formula in the order of the text.
 #[derive(Drop)]
 struct Around<'a> {
     alloc: Global,
     valued: &'a BTreeSet<usize>,
     bound: &'a Bindings<FormulaId>,
+    inner: &'a [FormulaId],
     names: &'a Names,
     store: &'a Store,
 }
 
-/// Whether each number that is free in the formula, with the bound formulas in their places, is that of a name with an
-/// entry. No command may stand in the formula. An `Err` is want of memory.
+/// Whether each number that is free in the formula, with the bound formulas and the answers in their places, is that of a
+/// name with an entry. `inner` has the answers of the commands inside the formula, in the order of the text. An `Err` is want
+/// of memory.
 pub fn is_valued(
     alloc: Global,
     formula: &Formula,
     entries: &[PointEntry],
     bound: &Bindings<FormulaId>,
+    inner: &[FormulaId],
     names: &Names,
     store: &Store,
 ) -> Result<bool, AllocError>
-    requires whole { IsWhole (formula_tree formula.now) }
     requires ids { AreIds (IsId store.now) bound.now }
+    requires answers { AllByRecursion (IsId store.now) inner.now }
+    requires places { command_count (inner_of formula.now) ≤ length inner.now }
     ensures { IfOk result (λ valued. MatchBool valued
-        ((n : ℕ) → IsFreeInPlace (trees_bound (tree store.now) bound.now) (place names.now) (formula_tree formula.now) n → HasEntryAt (place names.now) entries.now n)
-        ((n : ℕ) × IsFreeInPlace (trees_bound (tree store.now) bound.now) (place names.now) (formula_tree formula.now) n × (¬ (HasEntryAt (place names.now) entries.now n)))) }
+        ((n : ℕ) → IsFreeInPlace (answered_trees (tree store.now) inner.now bound.now) (place names.now) (named_tree 0 formula.now) n → HasEntryAt (place names.now) entries.now n)
+        ((n : ℕ) × IsFreeInPlace (answered_trees (tree store.now) inner.now bound.now) (place names.now) (named_tree 0 formula.now) n × (¬ (HasEntryAt (place names.now) entries.now n)))) }
 {
     let valued = numbers_of(alloc, entries, names)?;
     let around = Around {
         alloc,
         valued: &valued,
         bound,
+        inner,
         names,
         store,
     };
     let mut opened = BTreeSet::new(alloc);
+    let mut taken = 0;
     let mut table = HashMap::new(alloc);
-    in_formula(&around, formula, &mut opened, &mut table)
+    in_formula(&around, formula, &mut opened, &mut taken, &mut table)
 }
 
 /// The numbers of the names that have entries.
@@ -164,6 +171,38 @@ fn are_in(numbers: &[usize], opened: &BTreeSet<usize>) -> bool
     true
 }
 
+/// The formula after the quantifiers with which this one begins.
+#[tactic(auto, using(qe_syntax::proofs::TreeEquations::trees))]
+fn after_quantifiers(formula: &Formula) -> &Formula
+    ensures matrix { formula_tree result.now ≡ matrix_of (formula_tree formula.now) }
+    ensures named { (k : ℕ) → named_tree k result.now ≡ matrix_of (named_tree k formula.now) }
+    ensures inner { inner_of result.now ≡ inner_of formula.now }
+{
+    let mut inner = formula;
+    'prefix: while let Formula::Ex(_, body) | Formula::All(_, body) = inner {
+        inner = body;
+    }
+    inner
+}
+
+/// Whether the free numbers of a formula of the store are in scope.
+fn in_made(
+    around: &Around<'_>,
+    id: FormulaId,
+    opened: &BTreeSet<usize>,
+    table: &mut Table,
+) -> Result<bool, AllocError>
+    requires id { IsId around.now.store.now id }
+    requires sound { IsSound around.now.store.now (contains nat_cmp around.now.valued.now) table.old }
+    ensures among { IfOk result (AreAmong (IsFree (tree around.now.store.now id)) (in_scope around.now.valued.now opened.now)) }
+    ensures sound { OnOk result (IsSound around.now.store.now (contains nat_cmp around.now.valued.now) table.new) }
+{
+    if !table.contains_key(&id) {
+        look_into(around.alloc, around.store, id, around.valued, table)?;
+    }
+    Ok(are_in(numbers(table, id), opened))
+}
+
 /// Whether the free numbers of what is bound to a name are in scope.
 fn in_bound(
     around: &Around<'_>,
@@ -173,59 +212,83 @@ fn in_bound(
 ) -> Result<bool, AllocError>
     requires ids { AreIds (IsId around.now.store.now) around.now.bound.now }
     requires sound { IsSound around.now.store.now (contains nat_cmp around.now.valued.now) table.old }
-    ensures among { IfOk result (AreAmong (MentionsNumber (trees_bound (tree around.now.store.now) around.now.bound.now) (place around.now.names.now) (Bound name.now)) (in_scope around.now.valued.now opened.now)) }
+    ensures among { IfOk result (AreAmong (MentionsNumber (answered_trees (tree around.now.store.now) around.now.inner.now around.now.bound.now) (place around.now.names.now) (Bound name.now)) (in_scope around.now.valued.now opened.now)) }
     ensures sound { OnOk result (IsSound around.now.store.now (contains nat_cmp around.now.valued.now) table.new) }
 {
-    let Some(id) = around.bound.get(name) else {
-        return Ok(true);
-    };
-    if !table.contains_key(&id) {
-        look_into(around.alloc, around.store, id, around.valued, table)?;
+    match bound_formula(name, around.bound) {
+        Some(id) => in_made(around, id, opened, table),
+        None => Ok(true),
     }
-    Ok(are_in(numbers(table, id), opened))
 }
 
-/// Whether the free numbers of a formula are in scope. The scope is as before.
+/// Whether the free numbers of the next answer are in scope. It is taken.
+fn in_answer(
+    around: &Around<'_>,
+    opened: &BTreeSet<usize>,
+    taken: &mut usize,
+    table: &mut Table,
+) -> Result<bool, AllocError>
+    requires answers { AllByRecursion (IsId around.now.store.now) around.now.inner.now }
+    requires room { taken.old < length around.now.inner.now }
+    requires sound { IsSound around.now.store.now (contains nat_cmp around.now.valued.now) table.old }
+    ensures among { IfOk result (AreAmong (MentionsNumber (answered_trees (tree around.now.store.now) around.now.inner.now around.now.bound.now) (place around.now.names.now) (Bound (inner_name taken.old))) (in_scope around.now.valued.now opened.now)) }
+    ensures taken { taken.new ≡ taken.old + 1 }
+    ensures sound { OnOk result (IsSound around.now.store.now (contains nat_cmp around.now.valued.now) table.new) }
+{
+    let id = around.inner[*taken];
+    *taken += 1;
+    in_made(around, id, opened, table)
+}
+
+/// Whether the free numbers of a formula are in scope, with the answers from the place `taken` on. Where they are, these are
+/// taken. The scope is as before.
 #[cycle(formulas)]
 fn in_formula(
     around: &Around<'_>,
     formula: &Formula,
     opened: &mut BTreeSet<usize>,
+    taken: &mut usize,
     table: &mut Table,
 ) -> Result<bool, AllocError>
-    requires whole { IsWhole (formula_tree formula.now) }
     requires ids { AreIds (IsId around.now.store.now) around.now.bound.now }
+    requires answers { AllByRecursion (IsId around.now.store.now) around.now.inner.now }
+    requires room { taken.old + command_count (inner_of formula.now) ≤ length around.now.inner.now }
     requires sound { IsSound around.now.store.now (contains nat_cmp around.now.valued.now) table.old }
-    ensures among { IfOk result (AreAmong (IsFreeHere around.now.store.now around.now.bound.now around.now.names.now (formula_tree formula.now)) (in_scope around.now.valued.now opened.old)) }
+    ensures among { IfOk result (AreAmong (IsFreeHere around.now.store.now around.now.inner.now around.now.bound.now around.now.names.now (named_tree taken.old formula.now)) (in_scope around.now.valued.now opened.old)) }
+    ensures taken { IfOk result (λ valued. valued ≡ true → taken.new ≡ taken.old + command_count (inner_of formula.now)) }
     ensures kept { OnOk result (IsSameSet nat_cmp opened.old opened.new) }
     ensures sound { OnOk result (IsSound around.now.store.now (contains nat_cmp around.now.valued.now) table.new) }
 {
     let new = open_scope(around, formula, opened)?;
-    let valued = in_matrix(around, matrix(formula), opened, table)?;
+    let valued = in_matrix(around, after_quantifiers(formula), opened, taken, table)?;
     close_scope(&new, opened);
     Ok(valued)
 }
 
 /// Whether the free numbers of a formula that begins with no quantifier are in scope. The scope is as before.
-#[tactic(auto, using(qe_syntax::proofs::TreeEquations::trees))]
+#[tactic(auto, using(qe_syntax::proofs::TreeEquations::trees, qe_syntax::proofs::TreeEquations::inners, qe_syntax::proofs::TreeEquations::nameds))]
 #[cycle(formulas)]
 fn in_matrix(
     around: &Around<'_>,
     formula: &Formula,
     opened: &mut BTreeSet<usize>,
+    taken: &mut usize,
     table: &mut Table,
 ) -> Result<bool, AllocError>
     requires unquantified { IsUnquantified (formula_tree formula.now) }
-    requires whole { IsWhole (formula_tree formula.now) }
     requires ids { AreIds (IsId around.now.store.now) around.now.bound.now }
+    requires answers { AllByRecursion (IsId around.now.store.now) around.now.inner.now }
+    requires room { taken.old + command_count (inner_of formula.now) ≤ length around.now.inner.now }
     requires sound { IsSound around.now.store.now (contains nat_cmp around.now.valued.now) table.old }
-    ensures among { IfOk result (AreAmong (IsFreeHere around.now.store.now around.now.bound.now around.now.names.now (formula_tree formula.now)) (in_scope around.now.valued.now opened.old)) }
+    ensures among { IfOk result (AreAmong (IsFreeHere around.now.store.now around.now.inner.now around.now.bound.now around.now.names.now (named_tree taken.old formula.now)) (in_scope around.now.valued.now opened.old)) }
+    ensures taken { IfOk result (λ valued. valued ≡ true → taken.new ≡ taken.old + command_count (inner_of formula.now)) }
     ensures kept { OnOk result (IsSameSet nat_cmp opened.old opened.new) }
     ensures sound { OnOk result (IsSound around.now.store.now (contains nat_cmp around.now.valued.now) table.new) }
 {
     match formula {
         Formula::True | Formula::False => Ok(true),
         Formula::Named(name) => in_bound(around, name, opened, table),
+        Formula::Computed(_) => in_answer(around, opened, taken, table),
         Formula::Compare(_, left, right) => {
             Ok(in_term(around, left, opened) && in_term(around, right, opened))
         }
@@ -236,17 +299,40 @@ fn in_matrix(
                     && in_term(around, modulus, opened),
             )
         }
-        Formula::Not(inner) => in_formula(around, inner, opened, table),
+        Formula::Not(inner) => in_formula(around, inner, opened, taken, table),
         Formula::And(members) | Formula::Or(members) => {
-            in_formulas(around, members.items(), opened, table)
+            in_formulas(around, members.items(), opened, taken, table)
         }
         Formula::Impl(left, right) | Formula::Repl(left, right) | Formula::Equiv(left, right) => {
-            let left = in_formula(around, left, opened, table)?;
-            let right = in_formula(around, right, opened, table)?;
-            Ok(left && right)
+            in_pair(around, left, right, opened, taken, table)
         }
-        Formula::Ex(..) | Formula::All(..) | Formula::Computed(_) => unreachable!(),
+        Formula::Ex(..) | Formula::All(..) => unreachable!(),
     }
+}
+
+/// Whether the free numbers of two formulas are in scope. The scope is as before.
+#[cycle(formulas)]
+fn in_pair(
+    around: &Around<'_>,
+    left: &Formula,
+    right: &Formula,
+    opened: &mut BTreeSet<usize>,
+    taken: &mut usize,
+    table: &mut Table,
+) -> Result<bool, AllocError>
+    requires ids { AreIds (IsId around.now.store.now) around.now.bound.now }
+    requires answers { AllByRecursion (IsId around.now.store.now) around.now.inner.now }
+    requires room { taken.old + (command_count (inner_of left.now) + command_count (inner_of right.now)) ≤ length around.now.inner.now }
+    requires sound { IsSound around.now.store.now (contains nat_cmp around.now.valued.now) table.old }
+    ensures among { IfOk result (AreAmong (λ n. IsFreeHere around.now.store.now around.now.inner.now around.now.bound.now around.now.names.now (named_tree taken.old left.now) n ⊎ IsFreeHere around.now.store.now around.now.inner.now around.now.bound.now around.now.names.now (named_tree (taken.old + command_count (inner_of left.now)) right.now) n) (in_scope around.now.valued.now opened.old)) }
+    ensures taken { IfOk result (λ valued. valued ≡ true → taken.new ≡ taken.old + (command_count (inner_of left.now) + command_count (inner_of right.now))) }
+    ensures kept { OnOk result (IsSameSet nat_cmp opened.old opened.new) }
+    ensures sound { OnOk result (IsSound around.now.store.now (contains nat_cmp around.now.valued.now) table.new) }
+{
+    if !in_formula(around, left, opened, taken, table)? {
+        return Ok(false);
+    }
+    in_formula(around, right, opened, taken, table)
 }
 
 /// Whether the free numbers of the formulas are in scope. The scope is as before.
@@ -255,17 +341,20 @@ fn in_formulas(
     around: &Around<'_>,
     formulas: &[Formula],
     opened: &mut BTreeSet<usize>,
+    taken: &mut usize,
     table: &mut Table,
 ) -> Result<bool, AllocError>
-    requires whole { AreWhole (formulas_of (map formula_tree formulas.now)) }
     requires ids { AreIds (IsId around.now.store.now) around.now.bound.now }
+    requires answers { AllByRecursion (IsId around.now.store.now) around.now.inner.now }
+    requires room { taken.old + command_count (all_of (map whole_formula formulas.now)).inner ≤ length around.now.inner.now }
     requires sound { IsSound around.now.store.now (contains nat_cmp around.now.valued.now) table.old }
-    ensures among { IfOk result (AreAmong (AreFreeHere around.now.store.now around.now.bound.now around.now.names.now (formulas_of (map formula_tree formulas.now))) (in_scope around.now.valued.now opened.old)) }
+    ensures among { IfOk result (AreAmong (AreFreeHere around.now.store.now around.now.inner.now around.now.bound.now around.now.names.now ((all_of (map whole_formula formulas.now)).named taken.old)) (in_scope around.now.valued.now opened.old)) }
+    ensures taken { IfOk result (λ valued. valued ≡ true → taken.new ≡ taken.old + command_count (all_of (map whole_formula formulas.now)).inner) }
     ensures kept { OnOk result (IsSameSet nat_cmp opened.old opened.new) }
     ensures sound { OnOk result (IsSound around.now.store.now (contains nat_cmp around.now.valued.now) table.new) }
 {
     for formula in formulas {
-        if !in_formula(around, formula, opened, table)? {
+        if !in_formula(around, formula, opened, taken, table)? {
             return Ok(false);
         }
     }

@@ -1,5 +1,5 @@
 -- Statements and formulas inside which no command stands.
-use Rattle.std.proofs.Common.{◌≡◌, ℕ, false, sym, ap, subst}
+use Rattle.std.proofs.Common.{◌≡◌, ◌≤◌, false, ap, subst, arith}
 use Rattle.std.specs.declared.boxed.Box.{Box}
 use Rattle.std.specs.declared.alloc.Global.{Global}
 use Rattle.qe_syntax.specs.declared.tree.Formula.{Formula}
@@ -17,8 +17,8 @@ use Rattle.statement_syntax.specs.Writable.{IsWritable, IsWritableAction, IsWrit
 use Rattle.statement_syntax.proofs.Plain.{plain_statement_is}
 
 -- a formula whose names can be written has no place for an answer
-pub no_places : (f : Formula) → IsWritableFormula (formula_tree f) → 0 ≡ command_count (inner_of f)
-no_places f w = sym (ap command_count (no_hole f w))
+pub no_places : (f : Formula) → IsWritableFormula (formula_tree f) → command_count (inner_of f) ≤ 0
+no_places f w = let none : command_count (inner_of f) ≡ 0 = ap command_count (no_hole f w) in omega (arith, none)
 
 none_alone : (ns : Nests) → is_some_command ns ≡ false → ns ≡ alone
 none_alone alone e = λ i. alone

@@ -56,7 +56,7 @@ use Rattle.sample_reference.specs.TrueSample.{AreTrueValues}
 use Rattle.sample_reference.proofs.SamePoints.{abs_above, values_of_theory}
 use Rattle.least_theory.specs.LeastFraction.{IsLeastFraction}
 use Rattle.least_theory.specs.WeakTargets.{exs}
-use Rattle.problem_reading.specs.FromSessionMeaning.{AllTrueAt, by_names, State, TargetAnswer, Infeasible, Unbounded, Attained, IsAttained, target_name, target_number, problem_names, together, resolved_problem, problem_of, SaysLeast}
+use Rattle.problem_reading.specs.FromSessionMeaning.{AllTrueAt, by_names, State, TargetAnswer, Infeasible, Unbounded, Attained, IsAttained, target_name, target_number, problem_names, together, resolved_problem, problem_of, SaysLeast, known}
 use Rattle.problem_reading.proofs.FromSessionState.{variables_in_names, AllVariables, both, variables_of_formula, variables_of_all, all_put_in}
 use Rattle.problem_reading.specs.Reading.{HasNumbers, IsReadable}
 use Rattle.least_queries.specs.Found.{IsTargetFound, at_value}
@@ -186,7 +186,7 @@ module _ (s : State) (written : FormulaTrees) (target : TermTree) (h : IsProblem
   number = place s.names
 
   abbrev by : WrittenAtom → Tree
-  by = resolved_atom s.context s.bound number
+  by = resolved_atom s.context (known s) number
 
   abbrev z : ℕ
   z = target_number s
@@ -197,11 +197,11 @@ module _ (s : State) (written : FormulaTrees) (target : TermTree) (h : IsProblem
   abbrev own : List (List ℕ)
   own = problem_names written target
 
-  plain : Every (IsPlain s.context s.bound s.names) equation × EveryOf (IsPlain s.context s.bound s.names) written
+  plain : Every (IsPlain s.context (known s) s.names) equation × EveryOf (IsPlain s.context (known s) s.names) written
   plain =
-      every_member (IsPlain s.context s.bound s.names) equation written
-      (every_behind (IsPlain s.context s.bound s.names) own (together equation written)
-      (subst (λ ns. Every (IsPlain s.context s.bound ns) (problem_of written target)) h.numbered (all_plain s.context s.bound s.names (problem_of written target) h.readable)))
+      every_member (IsPlain s.context (known s) s.names) equation written
+      (every_behind (IsPlain s.context (known s) s.names) own (together equation written)
+      (subst (λ ns. Every (IsPlain s.context (known s) ns) (problem_of written target)) h.numbered (all_plain s.context (known s) s.names (problem_of written target) h.readable)))
 
   target_in : IsIn target_name s.names
   target_in = plain.0.named target_name (inl refl)
@@ -264,24 +264,24 @@ module _ (s : State) (written : FormulaTrees) (target : TermTree) (h : IsProblem
     numbered_others = record { same_below = agree.same_below; same_at = λ x k. agree.same_at (number x) (λ e. k.1 (one_name s.names x target_name k.0 target_in (sym e))) }
 
     -- a comparison without the target's name is true without its value too
-    comparison_met : (rel : Relation) (a b : TermTree) → IsPlain s.context s.bound s.names (Compare rel a b) → IsWritableTerm a → IsWritableTerm b
+    comparison_met : (rel : Relation) (a b : TermTree) → IsPlain s.context (known s) s.names (Compare rel a b) → IsWritableTerm a → IsWritableTerm b
         → TrueAt s.context (compared s.context rel (formed_difference s.context number a b)) valued → RelatesFractions rel (value a (by_names s.names bare)) (value b (by_names s.names bare))
     comparison_met rel a b p wa wb t =
         let others = names_written rel a b wa wb in
-        let spread = compare_there s.context s.bound s.names rel a b p IsOther (by_names s.names fine) valued fine_of (in_state valued valued_of) numbered_others (λ x m. (p.named x m, others x m)) in
-        let same = compare_there s.context s.bound s.names rel a b p (λ x. IsIn x s.names) (by_names s.names fine) fine fine_of (in_state fine fine_of) (numbered_all fine) p.named in
+        let spread = compare_there s.context (known s) s.names rel a b p IsOther (by_names s.names fine) valued fine_of (in_state valued valued_of) numbered_others (λ x m. (p.named x m, others x m)) in
+        let same = compare_there s.context (known s) s.names rel a b p (λ x. IsIn x s.names) (by_names s.names fine) fine fine_of (in_state fine fine_of) (numbered_all fine) p.named in
         let allowed : Allowed s.context n = subst (λ c. Allowed c n) (sym h.fields) (abs_above v.denominator positive) in
         let coarse = tree_finer s.context (compared s.context rel (formed_difference s.context number a b)) bare n allowed in
-        let last = compare_there s.context s.bound s.names rel a b p (λ x. IsIn x s.names) (by_names s.names bare) bare bare_of (in_state bare bare_of) (numbered_all bare) p.named in
+        let last = compare_there s.context (known s) s.names rel a b p (λ x. IsIn x s.names) (by_names s.names bare) bare bare_of (in_state bare bare_of) (numbered_all bare) p.named in
         last.1 (coarse.1 (same.0 (spread.1 t)))
 
-    constraint_met : (g : FormulaTree) → IsWeakComparison g → Every (IsPlain s.context s.bound s.names) g → IsWritableFormula g → TrueAt s.context (replaced by number g) valued
-        → syntax.TrueAt (bound_truth s.context s.bound s.names) s.context g (by_names s.names bare)
+    constraint_met : (g : FormulaTree) → IsWeakComparison g → Every (IsPlain s.context (known s) s.names) g → IsWritableFormula g → TrueAt s.context (replaced by number g) valued
+        → syntax.TrueAt (bound_truth s.context (known s) s.names) s.context g (by_names s.names bare)
     constraint_met g w =
-        subst (λ f. Every (IsPlain s.context s.bound s.names) f → IsWritableFormula f → TrueAt s.context (replaced by number f) valued → syntax.TrueAt (bound_truth s.context s.bound s.names) s.context f (by_names s.names bare)) (sym w.is)
+        subst (λ f. Every (IsPlain s.context (known s) s.names) f → IsWritableFormula f → TrueAt s.context (replaced by number f) valued → syntax.TrueAt (bound_truth s.context (known s) s.names) s.context f (by_names s.names bare)) (sym w.is)
         (λ p proper t. comparison_met w.relation w.left w.right p proper.0 proper.1 t)
 
-    all_met : (fs : FormulaTrees) → AreWeakConstraints fs → EveryOf (IsPlain s.context s.bound s.names) fs → AreWritableFormulas fs → AllTrueHere s.context by number valued fs → AllTrueAt s fs (by_names s.names bare)
+    all_met : (fs : FormulaTrees) → AreWeakConstraints fs → EveryOf (IsPlain s.context (known s) s.names) fs → AreWritableFormulas fs → AllTrueHere s.context by number valued fs → AllTrueAt s fs (by_names s.names bare)
     all_met none k p w t = tt
     all_met (also g gs) k p w t = (constraint_met g (weak_comparison g k.0) p.0 w.0 t.0, all_met gs k.1 p.1 w.1 t.1)
 
@@ -302,7 +302,7 @@ module _ (s : State) (written : FormulaTrees) (target : TermTree) (h : IsProblem
         let spread = form_stands s.context number IsOther target b.0 (by_names s.names fine) valued fine_of numbered_others others b.1 in
         let on_valued = form_stands s.context number (λ x. IsIn x s.names) target b.0 (by_names s.names valued) valued valued_of (numbered_all valued) named b.1 in
         let equal : SameValue (value (Named target_name) (by_names s.names valued)) (value target (by_names s.names valued)) =
-        (compare_there s.context s.bound s.names Equal (Named target_name) target p (λ x. IsIn x s.names) (by_names s.names valued) valued valued_of (in_state valued valued_of) (numbered_all valued) p.named).1 t in
+        (compare_there s.context (known s) s.names Equal (Named target_name) target p (λ x. IsIn x s.names) (by_names s.names valued) valued valued_of (in_state valued valued_of) (numbered_all valued) p.named).1 t in
         same_value_trans (value target (by_names s.names bare)) (value_at b.0 bare) v (form_proper b.0 bare bare_of on_bare.positive) (sym on_bare.same)
         (same_value_trans (value_at b.0 bare) (value_at b.0 fine) v (form_proper b.0 fine fine_of on_bare.positive) (finer_value b.0 bare n)
         (same_value_trans (value_at b.0 fine) (value target (by_names s.names fine)) v on_fine.meant on_fine.same

@@ -22,7 +22,7 @@ use Rattle.formula_resolving.specs.FirstCause.{IsFirstCause}
 use Rattle.plain_engine.specs.declared.measured.Measured.{Measured}
 use Rattle.plain_engine.specs.declared.measured.Measured.TheVariants as measured
 use Rattle.plain_engine.specs.Told.{StopsWith}
-use Rattle.problem_reading.specs.FromSessionMeaning.{StatementError, HasNoRoom, HasLongLine, HasNone, IsAccepted, IsFirst, Meaning, no_causes, meaning, State, with_names, problem_of, resolved_problem, target_number, at_target, TargetStops, Use, before}
+use Rattle.problem_reading.specs.FromSessionMeaning.{StatementError, HasNoRoom, HasLongLine, HasNone, IsAccepted, IsFirst, Meaning, no_causes, meaning, State, with_names, problem_of, resolved_problem, target_number, at_target, TargetStops, Use, before, known}
 use Rattle.problem_reading.specs.FromSessionMeaning.statement_error_variants as error
 use Rattle.problem_reading.specs.FromCommandTools.{static_refusal, measured_refusal}
 use Rattle.problem_reading.specs.Reading.{HasNumbers, IsReadable, AreNumbered, AppliesAmong, HasNoEarlier, IsFirstAmong}
@@ -41,7 +41,7 @@ module _ (old : State) (f : FormulaTree) where
   pub numbers_after : HasNumbers after.names f
   numbers_after = kept_names (formula_variables f) (names_after old.names f) (λ x i. after_has (formula_variables f) old.names x (inr i))
 
-  applies_after : (d : StaticError) → reading.Applies old.context old.bound old.names f d → reading.Applies old.context old.bound after.names f d
+  applies_after : (d : StaticError) → reading.Applies old.context (known old) old.names f d → reading.Applies old.context (known old) after.names f d
   applies_after static.Unbound h = h
   applies_after static.FormulaAsTerm h = h
   applies_after static.Nonlinear h = subst (λ ns. IsNonlinear old.context (place ns) f) (sym numbers_after) h
@@ -49,10 +49,10 @@ module _ (old : State) (f : FormulaTree) where
   applies_after static.CongruenceContext h = h
   applies_after static.Modulus h = subst (λ ns. IsBadModulus old.context (place ns) f) (sym numbers_after) h
   applies_after static.Depth h = h
-  applies_after static.Overflow h = subst (λ ns. OverflowsInReading old.context old.bound (place ns) f) (sym numbers_after) h
+  applies_after static.Overflow h = subst (λ ns. OverflowsInReading old.context (known old) (place ns) f) (sym numbers_after) h
   applies_after static.Memory h = h
 
-  applies_before : (d : StaticError) → reading.Applies old.context old.bound after.names f d → reading.Applies old.context old.bound old.names f d
+  applies_before : (d : StaticError) → reading.Applies old.context (known old) after.names f d → reading.Applies old.context (known old) old.names f d
   applies_before static.Unbound h = h
   applies_before static.FormulaAsTerm h = h
   applies_before static.Nonlinear h = subst (λ ns. IsNonlinear old.context (place ns) f) numbers_after h
@@ -60,7 +60,7 @@ module _ (old : State) (f : FormulaTree) where
   applies_before static.CongruenceContext h = h
   applies_before static.Modulus h = subst (λ ns. IsBadModulus old.context (place ns) f) numbers_after h
   applies_before static.Depth h = h
-  applies_before static.Overflow h = subst (λ ns. OverflowsInReading old.context old.bound (place ns) f) numbers_after h
+  applies_before static.Overflow h = subst (λ ns. OverflowsInReading old.context (known old) (place ns) f) numbers_after h
   applies_before static.Memory h = h
 
   pub readable_after : IsReadable old f → IsReadable after f
@@ -75,15 +75,15 @@ module _ (old : State) (f : FormulaTree) where
     within = λ k. h.within (applies_before static.Overflow k);
   }
 
-  none_after : (ds : List StaticError) → EachOf (λ d. ¬ (reading.Applies old.context old.bound old.names f d)) ds → EachOf (λ d. ¬ (AppliesAmong after (also f none) d)) ds
+  none_after : (ds : List StaticError) → EachOf (λ d. ¬ (reading.Applies old.context (known old) old.names f d)) ds → EachOf (λ d. ¬ (AppliesAmong after (also f none) d)) ds
   none_after [] h = tt
   none_after (d ∷ ds) h = (⊎_elim (λ k. h.0 (applies_before d k)) (λ k. k), none_after ds h.1)
 
-  first_one : (d : StaticError) → reading.IsFirst old.context old.bound old.names f d → IsFirstAmong after (also f none) d
+  first_one : (d : StaticError) → reading.IsFirst old.context (known old) old.names f d → IsFirstAmong after (also f none) d
   first_one d h = record { applies = inl (applies_after d h.applies); first = none_after (reading.before d) h.first }
 
   -- the first cause of the formula is the first there
-  pub first_after : (d : StaticError) → d ≢ static.Memory → IsFirstCause old.context old.bound old.names f d → IsFirstAmong after (also f none) d
+  pub first_after : (d : StaticError) → d ≢ static.Memory → IsFirstCause old.context (known old) old.names f d → IsFirstAmong after (also f none) d
   first_after static.Unbound n h = first_one static.Unbound h
   first_after static.FormulaAsTerm n h = first_one static.FormulaAsTerm h
   first_after static.Nonlinear n h = first_one static.Nonlinear h
@@ -211,7 +211,7 @@ module _ (old : State) (written : FormulaTrees) (target : TermTree) (limit : ℕ
   memory Fields = refl
   memory Integers = refl
 
-  first_refuses : (c : Context) → old.context ≡ c → (d : StaticError) → d ≢ static.Memory → IsFirstCause old.context old.bound old.names problem d → cause_of c d ≢ error.Memory → IsRefused (cause_of c d)
+  first_refuses : (c : Context) → old.context ≡ c → (d : StaticError) → d ≢ static.Memory → IsFirstCause old.context (known old) old.names problem d → cause_of c d ≢ error.Memory → IsRefused (cause_of c d)
   first_refuses Fields p d n h other = unread_fields there written target (numbers_after old problem) limit u p d n (first_after old problem d n h) other
   first_refuses Integers p d n h other = unread_integers there written target (numbers_after old problem) limit u p d n (first_after old problem d n h)
 

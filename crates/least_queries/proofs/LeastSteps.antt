@@ -26,7 +26,7 @@ use Rattle.redlog_printer.specs.Writing.{text_limit}
 use Rattle.problem_reading.proofs.FromSharedForms.{length_3, AreShort, variables_short, fraction_short, point_short, as_many}
 use Rattle.formula_tree.specs.Names.{with_name, place}
 use Rattle.problem_reading.specs.Reading.{IsReadable}
-use Rattle.problem_reading.proofs.FromSessionState.{AllVariables, grows_then, grown_state, grown_session, place_below}
+use Rattle.problem_reading.proofs.FromSessionState.{AllVariables, grows_then, grown_state, grown_session, known_formulas, place_below}
 use Rattle.resolved_formulas.specs.Causes.{most_height, height_in_place}
 use Rattle.resolved_formulas.specs.Resolving.{BoundTrees, formula_variables}
 use Rattle.resolved_formulas.proofs.PlaceLaws.{after_has, after_distinct, in_either}
@@ -36,7 +36,7 @@ use Rattle.formula_store.specs.Nodes.{tree}
 use Rattle.sample_reference.specs.Seen.{values_of}
 use Rattle.sample_reference.specs.Values.{Value, value_names}
 use Rattle.problem_reading.specs.FromAnswerTexts.{AreValuesWithin, fraction_text, point_text}
-use Rattle.problem_reading.specs.FromSessionMeaning.{Line, StatementError, meaning, numbered, IsLine, State, with_names, target_name, together, problem_names, problem_of, resolved_problem, target_number, SaysLeast, target_text}
+use Rattle.problem_reading.specs.FromSessionMeaning.{Line, StatementError, meaning, numbered, IsLine, State, with_names, target_name, together, problem_names, problem_of, resolved_problem, target_number, SaysLeast, target_text, known}
 use Rattle.problem_reading.specs.FromSessionState.{SessionState, state_of, IsSessionState, KeepsState, GrowsState}
 use Rattle.formula_resolving.specs.Numbering.{Grows}
 use Rattle.problem_reading.specs.FromCommandTools.{use_of, Refuses, IsQueryAnswer}
@@ -149,7 +149,7 @@ module _ (old mid : SessionState) (written : FormulaTrees) (target : TermTree) (
   pub normal_there : Every (IsNormal Fields) (tree mid.store id)
   normal_there =
       subst (λ c. Every (IsNormal c) (tree mid.store id)) fields
-      (subst (Every (IsNormal s.context)) (sym resolved) (resolving_is_normal s.context s.bound old.names f (λ x t e. (a.session.sound.formulas x t e).normal) a.read.readable))
+      (subst (Every (IsNormal s.context)) (sym resolved) (resolving_is_normal s.context (known s) old.names f (λ x t e. (known_formulas (state_of old) a.session.sound x t e).normal) a.read.readable))
 
   pub weak_there : IsWeakProblem (tree mid.store id)
   weak_there = subst IsWeakProblem (sym resolved) (weak_problem s written target fields a.weak)
@@ -212,8 +212,8 @@ module _ (old mid : SessionState) (written : FormulaTrees) (target : TermTree) (
         go (found.Attained least values) h =
             let many : length values.items ≡ length (problem_names written target) =
             sym (as_many values.items) ∙ ap length h.in_order ∙ length-map (problem_names written target) (place s.names) in
-            let low = names_low s.bound (problem_names written target) (together (One (Compare Equal (Named target_name) target)) written) in
-            let flat : ¬ (most_height < height_in_place s.bound f) = readable.flat in
+            let low = names_low (known s) (problem_names written target) (together (One (Compare Equal (Named target_name) target)) written) in
+            let flat : ¬ (most_height < height_in_place (known s) f) = readable.flat in
             text_short s.names names_short least values.items (omega (arith, many, low, flat))
 
     module _ (later : SessionState) (k : KeepsState mid later) where
@@ -242,7 +242,7 @@ module _ (old mid : SessionState) (written : FormulaTrees) (target : TermTree) (
   module _ (later : SessionState) (k : KeepsState mid later) (names : List (List ℕ)) (kept : names ≡ take (length mid.names - 1) later.names) where
     -- the state without it
     abbrev pub final : SessionState
-    final = record { alloc = later.alloc; context = later.context; names = names; bindings = later.bindings; standing = later.standing; store = later.store; kept = later.kept }
+    final = record { alloc = later.alloc; context = later.context; names = names; bindings = later.bindings; standing = later.standing; answers = later.answers; store = later.store; kept = later.kept }
 
     names_are : names ≡ first
     names_are =
@@ -256,6 +256,7 @@ module _ (old mid : SessionState) (written : FormulaTrees) (target : TermTree) (
           names = subst (Grows old.names) (sym names_are) (grows_all (problem_names written target) old.names);
           bindings = g.bindings;
           standing = g.standing;
+          answers = g.answers;
           store = g.store;
         }
 

@@ -28,7 +28,7 @@ use Rattle.resolved_formulas.specs.Resolving.{compared, resolved_atom}
 use Rattle.formula_tree.specs.Names.{place}
 use Rattle.least_theory.specs.WeakTargets.{IsWeak, IsWeakRelation, exs}
 use Rattle.least_theory.proofs.Weak.{weak_in_fields}
-use Rattle.problem_reading.specs.FromSessionMeaning.{State, target_name, problem_names, together, resolved_problem}
+use Rattle.problem_reading.specs.FromSessionMeaning.{State, target_name, problem_names, together, resolved_problem, known}
 use Rattle.least_queries.specs.Found.{IsWeakProblem}
 
 -- ---- constraints
@@ -104,7 +104,7 @@ names_resolved by number (x ∷ xs) f = ap (λ t. Ex (number x) t) (names_resolv
 
 module _ (s : State) (fields : s.context ≡ Fields) where
   abbrev by : WrittenAtom → Tree
-  by = resolved_atom s.context s.bound (place s.names)
+  by = resolved_atom s.context (known s) (place s.names)
 
   comparison_weak : (f : FormulaTree) → IsWeakComparison f → IsWeakTree (replaced by (place s.names) f)
   comparison_weak f h =
@@ -130,9 +130,9 @@ weak_problem s written target fields weak =
     let tree = together_weak s fields equation written refl weak in
     record {
       names = map (place s.names) (problem_names written target);
-      matrix = replaced (resolved_atom s.context s.bound (place s.names)) (place s.names) (together equation written);
-      same = names_resolved (resolved_atom s.context s.bound (place s.names)) (place s.names) (problem_names written target) (together equation written);
+      matrix = replaced (resolved_atom s.context (known s) (place s.names)) (place s.names) (together equation written);
+      same = names_resolved (resolved_atom s.context (known s) (place s.names)) (place s.names) (problem_names written target) (together equation written);
       is_plain = tree.is_plain;
       weak = tree.weak;
-      in_fields = weak_in_fields (replaced (resolved_atom s.context s.bound (place s.names)) (place s.names) (together equation written)) tree.weak;
+      in_fields = weak_in_fields (replaced (resolved_atom s.context (known s) (place s.names)) (place s.names) (together equation written)) tree.weak;
     }

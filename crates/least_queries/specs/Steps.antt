@@ -11,7 +11,7 @@ use Rattle.formula_resolving.specs.FirstCause.{IsFirstCause}
 use Rattle.problem_reading.specs.FromAnswerTexts.{AreValuesWithin}
 use Rattle.formula_resolving.specs.declared.error.StaticError.{StaticError}
 use Rattle.formula_resolving.specs.declared.error.StaticError.TheVariants as static
-use Rattle.problem_reading.specs.FromSessionMeaning.{StatementError, State, TargetAnswer, Infeasible, Unbounded, Attained}
+use Rattle.problem_reading.specs.FromSessionMeaning.{StatementError, State, TargetAnswer, Infeasible, Unbounded, Attained, known}
 use Rattle.problem_reading.specs.FromSessionMeaning.statement_error_variants as error
 use Rattle.problem_reading.specs.FromSessionState.{SessionState, state_of}
 use Rattle.problem_reading.specs.Reading.{IsReadable}
@@ -41,8 +41,8 @@ pub record IsProblemIn (old : SessionState) (f : FormulaTree) (new : SessionStat
   pub readable : IsReadable (state_of old) f
   pub fields : (state_of old).context ≡ Fields
   pub names : new.names ≡ names_after old.names f
-  pub made : IsMade (IsId new.store) (tree new.store) id (resolve (state_of old).context (state_of old).bound (names_after old.names f) f)
+  pub made : IsMade (IsId new.store) (tree new.store) id (resolve (state_of old).context (known (state_of old)) (names_after old.names f) f)
 
 -- why it is not: the first cause in reading, or the theory, where there is none
 abbrev pub IsProblemUnread : State → FormulaTree → StatementError → Type 0
-IsProblemUnread s f e = ((d : StaticError) × (e ≡ cause_of s.context d) × IsFirstCause s.context s.bound s.names f d) ⊎ ((e ≡ error.Context) × (s.context ≡ Integers) × IsReadable s f)
+IsProblemUnread s f e = ((d : StaticError) × (e ≡ cause_of s.context d) × IsFirstCause s.context (known s) s.names f d) ⊎ ((e ≡ error.Context) × (s.context ≡ Integers) × IsReadable s f)

@@ -8,10 +8,8 @@ ghost use Rattle.qe_syntax.specs.CodeTrees.{term_tree, formula_tree, inner_of};
 ghost use Rattle.qe_syntax.specs.Writable.{IsWritableTerm, AreWritableFormulas};
 ghost use Rattle.statement_syntax.specs.ConstraintLists.{AreWeakConstraints};
 ghost use Rattle.statement_syntax.specs.Statements.{Least as LeastOf};
-ghost use Rattle.formula_resolving.specs.BoundIds.{AreIds};
-ghost use Rattle.formula_store.specs.Nodes.{IsId};
 ghost use Rattle.problem_reading.specs.FromSessionMeaning.{meaning, numbered, with_names, target_name};
-ghost use Rattle.problem_reading.specs.FromSessionState.{state_of, IsSessionState, GrowsState};
+ghost use Rattle.problem_reading.specs.FromSessionState.{state_of, HasIds, IsSessionState, GrowsState};
 ghost use Rattle.atom_normal.specs.Atoms.{context_of};
 ghost use Rattle.problem_reading.specs.FromCommandTools.{use_of, Refuses, IsQueryAnswer};
 ghost use Rattle.least_queries.specs.Steps.{cause_of, IsProblemIn, IsProblemUnread};
@@ -64,7 +62,7 @@ pub fn answer_least<R: Threads + Sync, G: Gate + Sync>(
 fn read(state: &mut SessionState, problem: &Formula) -> Result<FormulaId, StatementError>
     requires proper { IsProperFormula (formula_tree problem.now) }
     requires plain { inner_of problem.now ≡ alone }
-    requires ids { AreIds (IsId state.old.store) state.old.bindings }
+    requires ids { HasIds state.old }
     ensures read { IfOk result (IsProblemIn state.old (formula_tree problem.now) state.new) }
     ensures unread { IfErr result (IsProblemUnread (state_of state.old) (formula_tree problem.now)) }
     ensures grown { GrowsState state.old state.new }
@@ -73,7 +71,7 @@ fn read(state: &mut SessionState, problem: &Formula) -> Result<FormulaId, Statem
         state.alloc,
         problem,
         &state.bindings,
-        &[],
+        &state.answers,
         state.context,
         &mut state.names,
         &mut state.store,

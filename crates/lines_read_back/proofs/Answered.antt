@@ -17,18 +17,16 @@ use Rattle.session_meaning.specs.declared.line.Line.{Line}
 use Rattle.session_meaning.specs.declared.line.Line.TheVariants as line
 use Rattle.session_meaning.specs.declared.line.StatementError.{StatementError}
 use Rattle.session_meaning.specs.declared.line.StatementError.TheVariants as error
-use Rattle.session_meaning.specs.State.{State, with_names}
+use Rattle.resolved_formulas.specs.Answers.{with_inner}
+use Rattle.session_meaning.specs.State.{State, with_names, with_answers, known}
 use Rattle.session_meaning.specs.Words.{before}
-use Rattle.session_meaning.specs.Meaning.{Meaning, variables, numbered, meaning}
+use Rattle.session_meaning.specs.Meaning.{Meaning, variables, meaning}
 use Rattle.session_meaning.specs.Uses.{Use}
 use Rattle.session_meaning.specs.Causes.{HasLongLine, MayBeCause, HasNone, IsFirst, IsAccepted}
-use Rattle.session_meaning.specs.Reply.{IsLine, AnswersSaid, Answers, Reply}
+use Rattle.session_meaning.specs.Reply.{IsLine, IsReached, AnswersSaid, Answers, Reply}
 use Rattle.redlog_run.proofs.FromProblemReading.{no_cause, then_clear, readable_below}
-use Rattle.redlog_run.proofs.Unrefused.{never, action_refused}
+use Rattle.redlog_run.proofs.Unrefused.{plain_state, plain_reached, never, action_refused}
 use Rattle.lines_read_back.specs.ReadBack.{IsBare, IsOwnFormula, IsSameLine, TextIsAnswered}
-
-same_with : (s : State) (names : List (List ℕ)) → names ≡ s.names → with_names s names ≡ s
-same_with s names p = ap (with_names s) p
 
 module _ (s : State) (limit : ℕ) (t : Tree) (bare : IsBare s) (own : IsOwnFormula s t) (readable : IsReadable s.names t) where
   back : IsReadBack s.context s.names (line_text s.names t) t
@@ -46,14 +44,22 @@ module _ (s : State) (limit : ℕ) (t : Tree) (bare : IsBare s) (own : IsOwnForm
   same_names : fold with_name s.names (variables (meaning (Echo w))) ≡ s.names
   same_names = ap (fold with_name s.names) (append-nil (formula_variables w ++ []) ∙ append-nil (formula_variables w)) ∙ back.resolved.same_names
 
-  same_state : numbered (meaning (Echo w)) s ≡ s
-  same_state = same_with s (fold with_name s.names (variables (meaning (Echo w)))) same_names
+  -- so the state that is reached is this one
+  same_state : plain_state (Say (Echo w)) s ≡ s
+  same_state = ap₂ (λ ns ts. with_answers (with_names s ns) ts) same_names (sym bare.settled)
 
-  same_tree : resolve s.context s.bound s.names w ≡ t
-  same_tree = ap (λ bs. resolve s.context bs s.names w) bare.unbound ∙ back.resolved.same_tree
+  reached : IsReached (printed_echo w) s limit s
+  reached = record { answers = []; names = s.names; given = (refl, sym same_names); is = ap (with_answers s) bare.settled }
 
-  accepted : IsResolvable s.context s.bound s.names w
-  accepted = subst (λ bs. IsResolvable s.context bs s.names w) (sym bare.unbound) back.resolved.accepted
+  -- no name stands for a formula
+  nothing_known : known s ≡ []
+  nothing_known = ap₂ with_inner bare.settled bare.unbound
+
+  same_tree : resolve s.context (known s) s.names w ≡ t
+  same_tree = ap (λ bs. resolve s.context bs s.names w) nothing_known ∙ back.resolved.same_tree
+
+  accepted : IsResolvable s.context (known s) s.names w
+  accepted = subst (λ bs. IsResolvable s.context bs s.names w) (sym nothing_known) back.resolved.accepted
 
   -- the text is shorter than a text may be
   short : length (tree_text s.names t) ≤ 4194304
@@ -89,7 +95,7 @@ module _ (s : State) (limit : ℕ) (t : Tree) (bare : IsBare s) (own : IsOwnForm
   refuses_not : (e : StatementError) → e ≢ error.Memory → IsFirst of_line s limit use_of_line e → ⊥
   refuses_not e other h = ⊎_elim (no_cause of_line s limit use_of_line none_applies e) (may_not e) h.applies
 
-  unrefused : (e : StatementError) → e ≢ error.Memory → IsFirst of_line (numbered of_line s) limit use_of_line e → ⊥
+  unrefused : (e : StatementError) → e ≢ error.Memory → IsFirst of_line (plain_state (Say (Echo w)) s) limit use_of_line e → ⊥
   unrefused e other h = refuses_not e other (subst (λ (z : State). IsFirst of_line z limit use_of_line e) same_state h)
 
   -- ---- the answer
@@ -99,14 +105,20 @@ module _ (s : State) (limit : ℕ) (t : Tree) (bare : IsBare s) (own : IsOwnForm
   same_line text (line.Printed bytes) next e f h = (h.1 ∙ e, f)
   same_line text line.Finished next e f h = absurd h
 
-  answer_is : (answer : Line) (next : State) → Answers s limit true (Say (Echo w)) answer next → IsSameLine s (tree_text s.names t) (Ok answer) next
-  answer_is answer next h =
-      let a : AnswersSaid of_line s limit true answer next = subst (λ (z : State). AnswersSaid of_line z limit true answer next) same_state h in
+  answer_is : (answer : Line) (state after next : State) → IsReached (printed_echo w) s limit state → Answers state limit true (Say (Echo w)) answer after → next ≡ with_answers after []
+      → IsSameLine s (tree_text s.names t) (Ok answer) next
+  answer_is answer state after next r h left =
+      let here : state ≡ s = plain_reached s limit (printed_echo w) state refl r ∙ same_state in
+      let a : AnswersSaid of_line s limit true answer after = subst (λ (z : State). AnswersSaid of_line z limit true answer after) here h in
       let told = a.told in
-      same_line a.text answer next (told.2 ∙ ap₂ (λ ns g. tree_text ns g) a.named (told.1.0 ∙ same_tree)) (a.after ∙ ap (with_names s) a.named) a.line
+      let stays : after ≡ s = a.after ∙ ap (with_names s) a.named in
+      same_line a.text answer next (told.2 ∙ ap₂ (λ ns g. tree_text ns g) a.named (told.1.0 ∙ same_tree)) (left ∙ ap (λ (z : State). with_answers z []) stays ∙ ap (with_answers s) (sym bare.settled)) a.line
 
   only : (result : Result Line StatementError) (next : State) → Reply s limit (line_text s.names t) result next → IsSameLine s (tree_text s.names t) result next
-  only (Ok answer) next r = answer_is answer next (subst (λ (u : StatementTree). Answers s limit u.printed u.action answer next) (back.spells.alone r.statement r.spelled) r.answered)
+  only (Ok answer) next r =
+      let same = back.spells.alone r.statement r.spelled in
+      answer_is answer r.state r.after next (subst (λ (u : StatementTree). IsReached u s limit r.state) same r.reached)
+      (subst (λ (u : StatementTree). Answers r.state limit u.printed u.action answer r.after) same r.answered) r.left
   only (Err error.Memory) next r = tt
   only (Err e) next r = absurd (never s limit (line_text s.names t) (printed_echo w) back.spells.spelled (λ d other h. unrefused d other (action_refused s limit (printed_echo w) d refl h)) e next (λ m. absurd (cc)) r)
 
@@ -126,8 +138,11 @@ module _ (s : State) (limit : ℕ) (t : Tree) (bare : IsBare s) (own : IsOwnForm
   answered bytes e = record {
     statement = printed_echo w;
     spelled = back.spells.spelled;
-    plain = refl;
-    answered = subst (λ (z : State). AnswersSaid of_line z limit true (line.Printed bytes) s) (sym same_state) (answers bytes e);
+    state = s;
+    reached = reached;
+    after = s;
+    answered = answers bytes e;
+    left = ap (with_answers s) bare.settled;
   }
 
 pub text_is_answered : TextIsAnswered

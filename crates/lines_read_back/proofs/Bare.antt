@@ -3,12 +3,15 @@ use Rattle.std.proofs.Common.{◌≡◌, ℕ, List, [], ◌∷◌, ◌++◌, map
 use Rattle.std.proofs.lemmas.List.{append_cancel_right}
 use Rattle.std.specs.List.{fold}
 use Rattle.statement_syntax.specs.Statements.{CommandTree, Echo, Nnf, Pnf, Dnf, Cnf, Simpl, Qe, Qea, Holds, Sample, Grid, Certify, Check, Least, ActionTree, Empty, Ignored, Finish, Choose, Say, Assign, Assume, Retract, StatementTree}
+use Rattle.formula_meaning.specs.Tree.{Tree}
+use Rattle.formula_meaning.specs.Formula.{none}
 use Rattle.qe_syntax.specs.Trees.{TermTree, FormulaTrees}
-use Rattle.qe_syntax.specs.Holes.{alone}
+use Rattle.qe_syntax.specs.Holes.{Nests, alone}
 use Rattle.qe_syntax.specs.Writable.{AreWritableFormulas}
 use Rattle.qe_syntax.specs.declared.entries.PointEntry.{PointEntry}
 use Rattle.statement_syntax.specs.declared.grid.GridAxis.{GridAxis}
-use Rattle.statement_syntax.specs.Writable.{AreWritableAxes, IsNameBeside, IsActionOver, IsWritableCommand, IsWritableAction, IsWritable}
+use Rattle.statement_syntax.specs.Texts.{texts_of, written_out}
+use Rattle.statement_syntax.specs.Writable.{AreWritableAxes, IsFormulaBeside, IsCommandOver, IsActionOver, IsWritableCommand, IsWritable}
 use Rattle.formula_tree.specs.Names.{with_name}
 use Rattle.resolved_formulas.specs.Resolving.{formula_variables, all_variables}
 use Rattle.resolved_formulas.specs.NamesAfter.{names_after}
@@ -18,15 +21,18 @@ use Rattle.redlog_tokens.proofs.ProperTokens.{lexed_proper}
 use Rattle.redlog_reader.proofs.Proper.{proper_statement}
 use Rattle.printed_formulas.specs.Round.{AreVariables}
 use Rattle.session_meaning.specs.declared.line.Line.{Line}
-use Rattle.session_meaning.specs.State.{State}
+use Rattle.session_meaning.specs.State.{State, with_names, with_answers}
 use Rattle.session_meaning.specs.Grids.{lows}
-use Rattle.session_meaning.specs.Meaning.{variables, numbered, meaning, assumption_meaning}
+use Rattle.session_meaning.specs.Meaning.{variables, text_variables, numbered, meaning, assumption_meaning}
+use Rattle.session_meaning.specs.Inside.{GivesAll}
 use Rattle.session_meaning.specs.FormulaGiven.{GivesFormula}
 use Rattle.session_meaning.specs.Targets.{target_name, problem_names, problem_of}
-use Rattle.session_meaning.specs.Reply.{Answers}
-use Rattle.redlog_run.proofs.NamesAfter.{answer_names_distinct, answer_names_variables, names_of_entries, front, front_variables, last_is_target}
+use Rattle.session_meaning.specs.Reply.{with_variables, Answers}
+use Rattle.redlog_run.proofs.NamesAfter.{answer_names_distinct, answer_names_variables, names_of_entries, front, front_variables, last_is_target, AreTexts, out_variables, given_variables, texts_written}
 use Rattle.redlog_run.proofs.FromSessionState.{AllVariables, both, variables_of_all, all_put_in}
 use Rattle.lines_read_back.specs.ReadBack.{NamesStayWritable}
+use Rattle.lines_read_back.proofs.InnerNames.{after_all}
+use Rattle.lines_read_back.proofs.LeastAlone.{IsLeastAlone, HasLeastAlone, least_alone}
 
 -- what a formula command reads can be written
 pub proper_formulas : (c : CommandTree) → GivesFormula (meaning c).answer → IsWritableCommand c → AreWritableFormulas (meaning c).formulas
@@ -89,12 +95,8 @@ said_variables s (Certify written) names p v h = plain_variables s (Certify writ
 said_variables s (Check written ms) names p v h = plain_variables s (Check written ms) names p.0.0 tt v h
 said_variables s (Least written target) names p v h = target_variables s written target names p v h
 
--- the state in which the variables of assumptions have their numbers
-assumed_variables : (s : State) (given : FormulaTrees) → AreWritableFormulas given → AreVariables s.names → AreVariables (numbered (assumption_meaning given) s).names
-assumed_variables s given h v = record {
-  distinct = after_distinct (variables (assumption_meaning given)) s.names v.distinct;
-  variables = all_put_in s.names (variables (assumption_meaning given)) v.variables (both (all_variables given) [] (variables_of_all given h) tt);
-}
+abbrev HasVariables : State → Type 0
+HasVariables s = AreVariables s.names
 
 -- ---- statements
 
@@ -102,24 +104,67 @@ assumed_variables s given h v = record {
 pub spelled_proper : {piece : List ℕ} {t : StatementTree} → Spells piece t → IsWritable t
 spelled_proper h = proper_statement h.spelled (lexed_proper h.kinds h.tokens.lexes h.tokens.good)
 
--- an action inside which no command stands
-plain_action : (t : StatementTree) → t.inner ≡ alone → IsWritable t → IsWritableAction t.action
-plain_action t plain w = subst (λ ns. IsActionOver (IsNameBeside ns) t.action) plain w.action
+-- a state where the commands inside a statement are answered
+module _ (ns : Nests) (texts : AreTexts (texts_of ns)) (s : State) (v : AreVariables s.names) (limit : ℕ) (answers : List Tree) (names : List (List ℕ)) where
+  abbrev reached : State
+  reached = with_answers (with_names s names) answers
 
-abbrev HasVariables : State → Type 0
-HasVariables s = AreVariables s.names
+  -- the names with these variables, and after those commands
+  numbered_names : (xs : List (List ℕ)) → AllVariables xs → GivesAll ns (with_names s (fold with_name s.names xs)) limit answers names → AreVariables names
+  numbered_names xs h g =
+      after_all ns (with_names s (fold with_name s.names xs)) limit answers names (record { distinct = after_distinct xs s.names v.distinct; variables = all_put_in s.names xs v.variables h }) g
 
-after_action : (s : State) (limit : ℕ) (printed : Bool) (a : ActionTree) (answer : Line) (next : State) → IsWritableAction a → AreVariables s.names
-    → Answers s limit printed a answer next → AreVariables next.names
-after_action s limit printed Empty answer next p v h = subst HasVariables (sym h.1) v
-after_action s limit printed Ignored answer next p v h = subst HasVariables (sym h.1) v
-after_action s limit printed Finish answer next p v h = subst HasVariables (sym h.1) v
-after_action s limit printed (Choose setting) answer next p v h = subst HasVariables (sym h.1) v
-after_action s limit printed (Say c) answer next p v h = subst HasVariables (sym h.after) (said_variables s c h.names p v h.named)
-after_action s limit printed (Assign x c) answer next p v h = subst HasVariables (sym h.binds) (said_variables s c h.names p.1 v h.named)
-after_action s limit printed (Assume given) answer next p v h = subst HasVariables (sym h.after) (assumed_variables s given p v)
-after_action s limit printed Retract answer next p v h = subst HasVariables (sym h.1) v
+  -- of a command all of whose variables can be written
+  said_names : (c : CommandTree) (next : List (List ℕ)) → AllVariables (all_variables (meaning c).formulas) → AllVariables (meaning c).further
+      → GivesAll ns (with_names s (fold with_name s.names (text_variables ns (meaning c)))) limit answers names → (meaning c).names reached next → AreVariables next
+  said_names c next formulas further g h =
+      let read = both (all_variables (written_out ns (meaning c).formulas)) (meaning c).further (out_variables ns (meaning c).formulas texts formulas) further in
+      let w = numbered_names (text_variables ns (meaning c)) read g in
+      record { distinct = answer_names_distinct reached c next w.distinct h; variables = answer_names_variables reached c next w.variables h }
+
+  -- of one that asks for a least value, inside which none stands
+  least_names : (written : FormulaTrees) (target : TermTree) (next : List (List ℕ)) → IsWritableCommand (Least written target) → ns ≡ alone
+      → GivesAll ns (with_names s (fold with_name s.names (text_variables ns (meaning (Least written target))))) limit answers names → (meaning (Least written target)).names reached next → AreVariables next
+  least_names written target next p plain g h =
+      let m = meaning (Least written target) in
+      let none = subst (λ (ms : Nests). GivesAll ms (with_names s (fold with_name s.names (text_variables ms m))) limit answers names) plain g in
+      target_variables s written target next p v (sym none.1 ∙ h)
+
+  after_said : (c : CommandTree) (next : List (List ℕ)) → IsCommandOver (IsFormulaBeside ns) c → IsLeastAlone c ns
+      → GivesAll ns (with_names s (fold with_name s.names (text_variables ns (meaning c)))) limit answers names → (meaning c).names reached next → AreVariables next
+  after_said (Echo f) next p l g h = said_names (Echo f) next (given_variables ns f none p tt) tt g h
+  after_said (Nnf f) next p l g h = said_names (Nnf f) next (given_variables ns f none p tt) tt g h
+  after_said (Pnf f) next p l g h = said_names (Pnf f) next (given_variables ns f none p tt) tt g h
+  after_said (Dnf f) next p l g h = said_names (Dnf f) next (given_variables ns f none p tt) tt g h
+  after_said (Cnf f) next p l g h = said_names (Cnf f) next (given_variables ns f none p tt) tt g h
+  after_said (Simpl f given) next p l g h = said_names (Simpl f given) next (given_variables ns f given p.0 p.1) tt g h
+  after_said (Qe f given) next p l g h = said_names (Qe f given) next (given_variables ns f given p.0 p.1) tt g h
+  after_said (Qea f given) next p l g h = said_names (Qea f given) next (given_variables ns f given p.0 p.1) tt g h
+  after_said (Holds f es) next p l g h = said_names (Holds f es) next (given_variables ns f none p.0 tt) (names_of_entries es p.1) g h
+  after_said (Sample f es) next p l g h = said_names (Sample f es) next (given_variables ns f none p.0 tt) (names_of_entries es p.1) g h
+  after_said (Grid f axes) next p l g h = said_names (Grid f axes) next (given_variables ns f none p.0 tt) (names_of_axes axes p.1) g h
+  after_said (Certify written) next p l g h = said_names (Certify written) next (variables_of_all written p.0) tt g h
+  after_said (Check written ms) next p l g h = said_names (Check written ms) next (variables_of_all written p.0.0) tt g h
+  after_said (Least written target) next p l g h = least_names written target next p l g h
+
+  after_action : (printed : Bool) (a : ActionTree) (answer : Line) (next : State) → IsActionOver (IsFormulaBeside ns) a → HasLeastAlone a ns
+      → GivesAll ns (with_variables ns a s) limit answers names → Answers reached limit printed a answer next → AreVariables next.names
+  after_action printed Empty answer next p l g h = subst HasVariables (sym h.1) (numbered_names [] tt g)
+  after_action printed Ignored answer next p l g h = subst HasVariables (sym h.1) (numbered_names [] tt g)
+  after_action printed Finish answer next p l g h = subst HasVariables (sym h.1) (numbered_names [] tt g)
+  after_action printed (Choose setting) answer next p l g h = subst HasVariables (sym h.1) (numbered_names [] tt g)
+  after_action printed (Say c) answer next p l g h = subst HasVariables (sym h.after) (after_said c h.names p l g h.named)
+  after_action printed (Assign x c) answer next p l g h = subst HasVariables (sym h.binds) (after_said c h.names p.1 l g h.named)
+  after_action printed (Assume given) answer next p l g h =
+      let read = both (all_variables (written_out ns given)) [] (out_variables ns given texts (variables_of_all given p)) tt in
+      subst HasVariables (sym h.after) (numbered_names (text_variables ns (assumption_meaning given)) read g)
+  after_action printed Retract answer next p l g h = subst HasVariables (sym h.1) (numbered_names [] tt g)
 
 pub names_stay_writable : NamesStayWritable
 names_stay_writable s limit piece answer next v r =
-    after_action s limit r.statement.printed r.statement.action answer next (plain_action r.statement r.plain (spelled_proper r.spelled)) v r.answered
+    let t = r.statement in
+    let w = spelled_proper r.spelled in
+    let g = r.reached in
+    let answered = subst (λ (z : State). Answers z limit t.printed t.action answer r.after) g.is r.answered in
+    subst HasVariables (sym r.left)
+    (after_action t.inner (texts_written t.inner w.inner) s v limit g.answers g.names t.printed t.action answer r.after w.action (least_alone r.spelled.spelled) g.given answered)

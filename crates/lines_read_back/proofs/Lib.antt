@@ -1,3 +1,5 @@
 pub mod Answered
 pub mod Bare
+pub mod InnerNames
+pub mod LeastAlone
 pub mod Printed

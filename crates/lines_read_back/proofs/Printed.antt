@@ -1,5 +1,5 @@
 -- What a formula command prints in a state in which nothing is bound is the text of a formula of the session.
-use Rattle.std.proofs.Common.{◌≡◌, refl, inl, inr, ℕ, ◌<◌, ◌≤◌, List, [], ◌++◌, true, length, codes, sym, ap, ◌∙◌, subst, arith}
+use Rattle.std.proofs.Common.{◌≡◌, refl, inl, inr, ℕ, ◌<◌, ◌≤◌, List, [], ◌++◌, true, length, codes, sym, ap, ap₂, ◌∙◌, subst, arith}
 use Rattle.std.specs.Prelude.{None}
 use Rattle.formula_meaning.specs.Context.{Context}
 use Rattle.formula_meaning.specs.Every.{Every}
@@ -13,12 +13,14 @@ use Rattle.qe_syntax.specs.Trees.{FormulaTree, FormulaTrees}
 use Rattle.qe_syntax.specs.Holes.{alone}
 use Rattle.statement_syntax.specs.Statements.{CommandTree, Echo, Nnf, Pnf, Dnf, Cnf, Simpl, Qe, Qea, Holds, Sample, Grid, Certify, Check, Least, Say, StatementTree}
 use Rattle.qe_syntax.specs.Writable.{IsWritableFormula, AreWritableFormulas}
+use Rattle.qe_syntax.proofs.WritableLemmas.{writable_formula}
 use Rattle.statement_syntax.specs.Writable.{IsWritableCommand}
 use Rattle.resolved_formulas.specs.Resolving.{BoundTrees, all_variables, resolve}
 use Rattle.formula_tree.specs.Names.{place}
 use Rattle.resolved_formulas.specs.NamesAfter.{names_after}
 use Rattle.resolved_formulas.specs.Causes.{most_height, IsUnbound, NamesFormulaAsTerm, IsNonlinear, Divides, CongruenceInFields, IsBadModulus, IsTooDeep, OverflowsInReading}
 use Rattle.resolved_formulas.specs.Accepted.{IsAccepted as IsResolvable}
+use Rattle.resolved_formulas.specs.Answers.{with_inner}
 use Rattle.resolved_formulas.proofs.ResolvedHeight.{resolving_keeps_height}
 use Rattle.redlog_reader.specs.Statement.{IsDeep}
 use Rattle.redlog_tokens.specs.declared.level.TheConstants.{LEVEL_LIMIT}
@@ -29,19 +31,21 @@ use Rattle.printed_formulas.specs.Levels.{tree_level}
 use Rattle.formula_meaning.specs.Numbers.{IsAtomInLimit}
 use Rattle.printed_formulas.specs.Round.{IsPrintable, line_text}
 use Rattle.printed_formulas.proofs.Echo.{deep_text_is_nesting}
+use Rattle.session_meaning.specs.declared.line.Line.{Line}
 use Rattle.session_meaning.specs.declared.line.Line.TheVariants as line
 use Rattle.session_meaning.specs.declared.line.StatementError.TheVariants as error
-use Rattle.session_meaning.specs.State.{State}
+use Rattle.session_meaning.specs.State.{State, with_names, with_answers, known}
 use Rattle.session_meaning.specs.FormulaAnswers.{negation_normal_of, IsSimplification, IsCleanAnswer, IsCondition}
 use Rattle.session_meaning.specs.Meaning.{Meaning, Answer, OfFormula, OfText, IsAllowed, MayGive, numbered, meaning}
 use Rattle.session_meaning.specs.FormulaGiven.{GivesFormula}
 use Rattle.session_meaning.specs.Uses.{Use}
 use Rattle.session_meaning.specs.Causes.{SomeFormula, IsAccepted}
-use Rattle.session_meaning.specs.Reply.{Tells, Answers}
+use Rattle.session_meaning.specs.Reply.{Tells, IsReached, AnswersSaid, Answers}
 use Rattle.redlog_run.specs.FromProblemReading.{AreNumbered}
 use Rattle.redlog_run.specs.FromSessionState.{IsSessionFormula}
 use Rattle.clean_forms.proofs.FormShapes.{form_free}
 use Rattle.redlog_run.proofs.FromProblemReading.{no_cause, numbered_in}
+use Rattle.redlog_run.proofs.Unrefused.{plain_state, plain_reached}
 use Rattle.resolved_formulas.proofs.PlaceLaws.{after_has, in_either}
 use Rattle.redlog_run.proofs.FromSharedForms.{unquantified_bound, within_of_names, free_below, none_from, all_below, prenex_formula}
 use Rattle.redlog_run.proofs.FromSessionState.{AreSessionFormulas, resolved_formula, negated_formula}
@@ -57,33 +61,33 @@ none_bound c n bound e = subst (AreSessionFormulas c n) (sym e) (λ x t h. absur
 
 -- a state in which the variables of the command have their numbers, and which accepts it
 module _ (z : State) (limit : ℕ) (u : Use) (m : Meaning) (f : FormulaTree) (gs : FormulaTrees) (formulas : m.formulas ≡ also f gs) (numbers : names_after z.names f ≡ z.names) (proper : IsWritableFormula f)
-    (unbound : z.bound ≡ []) (accepted : IsAccepted m z limit u) where
+    (unknown : known z ≡ []) (accepted : IsAccepted m z limit u) where
   at_names : (P : (List ℕ → ℕ) → Type 0) → P (place (names_after z.names f)) → P (place z.names)
   at_names P h = subst (λ ns. P (place ns)) numbers h
 
   some : (P : FormulaTree → Type 0) → P f → SomeFormula P m.formulas
   some P h = subst (SomeFormula P) (sym formulas) (inl h)
 
-  readable : IsResolvable z.context z.bound z.names f
+  readable : IsResolvable z.context (known z) z.names f
   readable = record {
-    bound_names = λ h. no_cause m z limit u accepted error.Unbound (some (IsUnbound z.bound) h);
-    variables = λ h. no_cause m z limit u accepted error.FormulaAsTerm (inl (some (NamesFormulaAsTerm z.bound) h));
+    bound_names = λ h. no_cause m z limit u accepted error.Unbound (some (IsUnbound (known z)) h);
+    variables = λ h. no_cause m z limit u accepted error.FormulaAsTerm (inl (some (NamesFormulaAsTerm (known z)) h));
     linear = λ h. no_cause m z limit u accepted error.Nonlinear (some (IsNonlinear z.context (place z.names)) (at_names (λ p. IsNonlinear z.context p f) h));
     undivided = λ h. no_cause m z limit u accepted error.Division (some (Divides z.context (place z.names)) (at_names (λ p. Divides z.context p f) h));
     congruences = λ h. no_cause m z limit u accepted error.CongruenceContext (some (CongruenceInFields z.context) h);
     moduli = λ h. no_cause m z limit u accepted error.Modulus (some (IsBadModulus z.context (place z.names)) (at_names (λ p. IsBadModulus z.context p f) h));
-    flat = λ h. no_cause m z limit u accepted error.Depth (some (IsTooDeep z.bound) h);
-    within = λ h. no_cause m z limit u accepted error.Overflow (inl (some (OverflowsInReading z.context z.bound (place z.names)) (at_names (λ p. OverflowsInReading z.context z.bound p f) h)));
+    flat = λ h. no_cause m z limit u accepted error.Depth (some (IsTooDeep (known z)) h);
+    within = λ h. no_cause m z limit u accepted error.Overflow (inl (some (OverflowsInReading z.context (known z) (place z.names)) (at_names (λ p. OverflowsInReading z.context (known z) p f) h)));
   }
 
   abbrev read : Tree
-  read = resolve z.context z.bound z.names f
+  read = resolve z.context (known z) z.names f
 
   resolved_one : IsSessionFormula z.context (length z.names) (read)
-  resolved_one = resolved_formula z.context z.bound z.names f (none_bound z.context (length z.names) z.bound unbound) numbers proper readable
+  resolved_one = resolved_formula z.context (known z) z.names f (none_bound z.context (length z.names) (known z) unknown) numbers (writable_formula f proper) readable
 
   resolved_low : height (read) ≤ most_height
-  resolved_low = let e = resolving_keeps_height z.context z.bound z.names f in let flat : ¬ (most_height < height (read)) = (λ h. readable.flat (subst (λ n. most_height < n) e h)) in omega arith
+  resolved_low = let e = resolving_keeps_height z.context (known z) z.names f in let flat : ¬ (most_height < height (read)) = (λ h. readable.flat (subst (λ n. most_height < n) e h)) in omega arith
 
   negated_one : IsSessionFormula z.context (length z.names) (negation_normal_of z f)
   negated_one = negated_formula z.context (length z.names) (read) resolved_one
@@ -131,45 +135,45 @@ module _ (z next : State) (limit : ℕ) (u : Use) (context : next.context ≡ z.
   same_formula : next.names ≡ z.names → IsSessionFormula z.context (length z.names) t → IsSessionFormula next.context (length next.names) t
   same_formula n h = subst (λ c. IsSessionFormula c (length next.names) t) (sym context) (subst (λ ns. IsSessionFormula z.context (length ns) t) (sym n) h)
 
-  given_formula : (c : CommandTree) → GivesFormula (meaning c).answer → AreNumbered z.names (meaning c).formulas → AreWritableFormulas (meaning c).formulas → z.bound ≡ [] → IsAccepted (meaning c) z limit u
+  given_formula : (c : CommandTree) → GivesFormula (meaning c).answer → AreNumbered z.names (meaning c).formulas → AreWritableFormulas (meaning c).formulas → known z ≡ [] → IsAccepted (meaning c) z limit u
       → IsAllowed (meaning c).answer z limit t → (meaning c).names z next.names → IsSessionFormula next.context (length next.names) t
-  given_formula (Echo f) b numbers proper unbound accepted h n =
-      same_formula n (subst (IsSessionFormula z.context (length z.names)) (sym h) (resolved_one z limit u (meaning (Echo f)) f none refl numbers.0 proper.0 unbound accepted))
-  given_formula (Nnf f) b numbers proper unbound accepted h n =
+  given_formula (Echo f) b numbers proper unknown accepted h n =
+      same_formula n (subst (IsSessionFormula z.context (length z.names)) (sym h) (resolved_one z limit u (meaning (Echo f)) f none refl numbers.0 proper.0 unknown accepted))
+  given_formula (Nnf f) b numbers proper unknown accepted h n =
       same_formula n (subst (IsSessionFormula z.context (length z.names)) (sym h)
-      (negated_formula z.context (length z.names) (resolve z.context z.bound z.names f) (resolved_one z limit u (meaning (Nnf f)) f none refl numbers.0 proper.0 unbound accepted)))
-  given_formula (Pnf f) b numbers proper unbound accepted h n =
+      (negated_formula z.context (length z.names) (resolve z.context (known z) z.names f) (resolved_one z limit u (meaning (Nnf f)) f none refl numbers.0 proper.0 unknown accepted)))
+  given_formula (Pnf f) b numbers proper unknown accepted h n =
       subst (λ c. IsSessionFormula c (length next.names) t) (sym context)
-      (prenex_formula z.context z.names next.names (resolve z.context z.bound z.names f) t (resolved_one z limit u (meaning (Pnf f)) f none refl numbers.0 proper.0 unbound accepted) h.form n)
-  given_formula (Dnf f) b numbers proper unbound accepted h n = same_formula n (clean_one z limit u (meaning (Dnf f)) f none refl numbers.0 proper.0 unbound accepted Conjunction t h)
-  given_formula (Cnf f) b numbers proper unbound accepted h n = same_formula n (clean_one z limit u (meaning (Cnf f)) f none refl numbers.0 proper.0 unbound accepted Disjunction t h)
-  given_formula (Simpl f given) b numbers proper unbound accepted h n = same_formula n (simplified_one z limit u (meaning (Simpl f given)) f given refl numbers.0 proper.0 unbound accepted given t h)
-  given_formula (Qe f given) b numbers proper unbound accepted h n = same_formula n (condition_formula z limit u (meaning (Qe f given)) f given refl numbers.0 proper.0 unbound accepted given t h)
-  given_formula (Qea f g) b numbers proper unbound accepted h n = absurd b
-  given_formula (Holds f es) b numbers proper unbound accepted h n = absurd b
-  given_formula (Sample f es) b numbers proper unbound accepted h n = absurd b
-  given_formula (Grid f axes) b numbers proper unbound accepted h n = absurd b
-  given_formula (Certify written) b numbers proper unbound accepted h n = absurd b
-  given_formula (Check written ms) b numbers proper unbound accepted h n = absurd b
-  given_formula (Least written target) b numbers proper unbound accepted h n = absurd b
+      (prenex_formula z.context z.names next.names (resolve z.context (known z) z.names f) t (resolved_one z limit u (meaning (Pnf f)) f none refl numbers.0 proper.0 unknown accepted) h.form n)
+  given_formula (Dnf f) b numbers proper unknown accepted h n = same_formula n (clean_one z limit u (meaning (Dnf f)) f none refl numbers.0 proper.0 unknown accepted Conjunction t h)
+  given_formula (Cnf f) b numbers proper unknown accepted h n = same_formula n (clean_one z limit u (meaning (Cnf f)) f none refl numbers.0 proper.0 unknown accepted Disjunction t h)
+  given_formula (Simpl f given) b numbers proper unknown accepted h n = same_formula n (simplified_one z limit u (meaning (Simpl f given)) f given refl numbers.0 proper.0 unknown accepted given t h)
+  given_formula (Qe f given) b numbers proper unknown accepted h n = same_formula n (condition_formula z limit u (meaning (Qe f given)) f given refl numbers.0 proper.0 unknown accepted given t h)
+  given_formula (Qea f g) b numbers proper unknown accepted h n = absurd b
+  given_formula (Holds f es) b numbers proper unknown accepted h n = absurd b
+  given_formula (Sample f es) b numbers proper unknown accepted h n = absurd b
+  given_formula (Grid f axes) b numbers proper unknown accepted h n = absurd b
+  given_formula (Certify written) b numbers proper unknown accepted h n = absurd b
+  given_formula (Check written ms) b numbers proper unknown accepted h n = absurd b
+  given_formula (Least written target) b numbers proper unknown accepted h n = absurd b
 
-  given_low : (c : CommandTree) → AreNumbered z.names (meaning c).formulas → AreWritableFormulas (meaning c).formulas → z.bound ≡ [] → IsAccepted (meaning c) z limit u
+  given_low : (c : CommandTree) → AreNumbered z.names (meaning c).formulas → AreWritableFormulas (meaning c).formulas → known z ≡ [] → IsAccepted (meaning c) z limit u
       → IsAllowed (meaning c).answer z limit t → IsEcho c → height t ≤ most_height
-  given_low (Echo f) numbers proper unbound accepted h k =
-      subst (λ (t : Tree). height t ≤ most_height) (sym h) (resolved_low z limit u (meaning (Echo f)) f none refl numbers.0 proper.0 unbound accepted)
-  given_low (Nnf f) numbers proper unbound accepted h k = absurd k
-  given_low (Pnf f) numbers proper unbound accepted h k = absurd k
-  given_low (Dnf f) numbers proper unbound accepted h k = absurd k
-  given_low (Cnf f) numbers proper unbound accepted h k = absurd k
-  given_low (Simpl f given) numbers proper unbound accepted h k = absurd k
-  given_low (Qe f given) numbers proper unbound accepted h k = absurd k
-  given_low (Qea f g) numbers proper unbound accepted h k = absurd k
-  given_low (Holds f es) numbers proper unbound accepted h k = absurd k
-  given_low (Sample f es) numbers proper unbound accepted h k = absurd k
-  given_low (Grid f axes) numbers proper unbound accepted h k = absurd k
-  given_low (Certify written) numbers proper unbound accepted h k = absurd k
-  given_low (Check written ms) numbers proper unbound accepted h k = absurd k
-  given_low (Least written target) numbers proper unbound accepted h k = absurd k
+  given_low (Echo f) numbers proper unknown accepted h k =
+      subst (λ (t : Tree). height t ≤ most_height) (sym h) (resolved_low z limit u (meaning (Echo f)) f none refl numbers.0 proper.0 unknown accepted)
+  given_low (Nnf f) numbers proper unknown accepted h k = absurd k
+  given_low (Pnf f) numbers proper unknown accepted h k = absurd k
+  given_low (Dnf f) numbers proper unknown accepted h k = absurd k
+  given_low (Cnf f) numbers proper unknown accepted h k = absurd k
+  given_low (Simpl f given) numbers proper unknown accepted h k = absurd k
+  given_low (Qe f given) numbers proper unknown accepted h k = absurd k
+  given_low (Qea f g) numbers proper unknown accepted h k = absurd k
+  given_low (Holds f es) numbers proper unknown accepted h k = absurd k
+  given_low (Sample f es) numbers proper unknown accepted h k = absurd k
+  given_low (Grid f axes) numbers proper unknown accepted h k = absurd k
+  given_low (Certify written) numbers proper unknown accepted h k = absurd k
+  given_low (Check written ms) numbers proper unknown accepted h k = absurd k
+  given_low (Least written target) numbers proper unknown accepted h k = absurd k
 
 -- ---- a line that is read again
 
@@ -187,32 +191,54 @@ told_formula : (a : Answer) (z : State) (limit : ℕ) (names : List (List ℕ)) 
 told_formula (OfFormula a) z limit names text b h = h
 told_formula (OfText tells) z limit names text b h = absurd b
 
+-- ---- the state after it
+
+-- a statement with this command, inside which no other stands
+abbrev said : CommandTree → StatementTree
+said c = record { action = Say c; printed = true; inner = alone }
+
+-- it is answered in the state in which its variables have their numbers
+said_alone : (s : State) (limit : ℕ) (c : CommandTree) (t : StatementTree) (state after : State) (answer : Line) → IsBare s → t ≡ said c → IsReached t s limit state → Answers state limit t.printed t.action answer after
+    → AnswersSaid (meaning c) (numbered (meaning c) s) limit true answer after
+said_alone s limit c t state after answer bare same reached answered =
+    let at_once : state ≡ plain_state (Say c) s = plain_reached s limit (said c) state refl (subst (λ (u : StatementTree). IsReached u s limit state) same reached) in
+    let settled : plain_state (Say c) s ≡ numbered (meaning c) s = ap (with_answers (numbered (meaning c) s)) (sym bare.settled) in
+    let there : AnswersSaid (meaning c) state limit true answer after = subst (λ (u : StatementTree). Answers state limit u.printed u.action answer after) same answered in
+    subst (λ (y : State). AnswersSaid (meaning c) y limit true answer after) settled (subst (λ (y : State). AnswersSaid (meaning c) y limit true answer after) at_once there)
+
+-- the answers are given up after it
+left_after : (z after next : State) (names : List (List ℕ)) → next ≡ with_answers after [] → after ≡ with_names z names → next ≡ with_answers (with_names z names) []
+left_after z after next names left is = left ∙ ap (λ (y : State). with_answers y []) is
+
 abbrev use_of_line : Use
 use_of_line = record { target = None; printed = true }
 
 pub printed_is_formula : PrintedIsFormula
 printed_is_formula s limit piece c bytes next bare built spelled r =
     let m = meaning c in
-    let a = subst (λ (u : StatementTree). Answers s limit u.printed u.action (line.Printed bytes) next) (spells_once piece r.statement (record { action = Say c; printed = true; inner = alone }) r.spelled spelled) r.answered in
     let z = numbered m s in
+    let a = said_alone s limit c r.statement r.state r.after (line.Printed bytes) bare (spells_once piece r.statement (said c) r.spelled spelled) r.reached r.answered in
+    let after_is : next ≡ with_answers (with_names z a.names) [] = left_after z r.after next a.names r.left a.after in
+    let unknown : known z ≡ [] = ap₂ with_inner bare.settled bare.unbound in
     let proper : IsWritableCommand c = (spelled_proper spelled).action in
-    let names : next.names ≡ a.names = ap (λ (y : State). y.names) a.after in
+    let names : next.names ≡ a.names = ap (λ (y : State). y.names) after_is in
     let told = told_formula m.answer z limit a.names a.text built a.told in
     let text_is : bytes.items ≡ tree_text next.names told.0 = a.line.1 ∙ told.2 ∙ ap (λ ns. tree_text ns told.0) (sym names) in
     let numbers : AreNumbered z.names m.formulas = numbered_in m.formulas z.names (λ x i. after_has (all_variables m.formulas ++ m.further) s.names x (inr (in_either x (all_variables m.formulas) m.further (inl i)))) in
     let after : m.names z next.names = subst (m.names z) (sym names) a.named in
     let bare_next : IsBare next = record {
       names = said_variables s c next.names proper bare.names after;
-      unbound = ap (λ (y : State). y.bound) a.after ∙ bare.unbound;
+      unbound = ap (λ (y : State). y.bound) after_is ∙ bare.unbound;
+      settled = ap (λ (y : State). y.answers) after_is;
     } in
-    let same : next.context ≡ z.context = ap (λ (y : State). y.context) a.after in
-    let own = given_formula z next limit use_of_line same told.0 c built numbers (proper_formulas c built proper) bare.unbound a.accepted told.1.0 after in
+    let same : next.context ≡ z.context = ap (λ (y : State). y.context) after_is in
+    let own = given_formula z next limit use_of_line same told.0 c built numbers (proper_formulas c built proper) unknown a.accepted told.1.0 after in
     let here : IsPrinted z limit c bytes.items next = record {
       tree = told.0;
       given = told.1;
       text_is = text_is;
       formula = own;
-      low = given_low z next limit use_of_line same told.0 c numbers (proper_formulas c built proper) bare.unbound a.accepted told.1.0;
+      low = given_low z next limit use_of_line same told.0 c numbers (proper_formulas c built proper) unknown a.accepted told.1.0;
       answered = read_again next told.0 bytes.items bare_next own told.1.1 text_is;
     } in
     (bare_next, here)

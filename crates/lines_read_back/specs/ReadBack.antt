@@ -24,10 +24,11 @@ use Rattle.session_meaning.specs.FormulaGiven.{GivesFormula}
 use Rattle.redlog_run.specs.FromSessionState.{IsSessionFormula}
 use Rattle.session_meaning.specs.Reply.{Reply}
 
--- nothing is bound, no name has two numbers, and each name is one that a script can write
+-- Nothing is bound, no name has two numbers, and each name is one that a script can write. No answers of commands inside a formula are kept.
 pub record IsBare (s : State) : Type 0 where
   pub names : AreVariables s.names
   pub unbound : s.bound ≡ []
+  pub settled : s.answers ≡ []
 
 -- a formula as the session has it, with numbers within the limit, and no higher than a resolved formula may be
 pub record IsOwnFormula (s : State) (t : Tree) : Type 0 where

@@ -1,5 +1,5 @@
 -- Why a command about a point is refused before anything is answered, and when it is not.
-use Rattle.std.proofs.Common.{◌≡◌, inl, inr, ⊎_elim, ℕ, List, [], ◌∷◌, Bool, true, false, IsTrue, ◌↔◌, MatchOption, Option, Some, None, sym, ap, ◌∙◌, subst, refl, rules}
+use Rattle.std.proofs.Common.{◌≡◌, inl, inr, ⊎_elim, ℕ, ◌≤◌, length, List, [], ◌∷◌, Bool, true, false, IsTrue, ◌↔◌, MatchOption, Option, Some, None, sym, ap, ◌∙◌, subst, refl, rules}
 use Rattle.std.proofs.lemmas.Bool.{false≢true}
 use Rattle.std.specs.Prelude.{option_map, is_some}
 use Rattle.formula_meaning.specs.Formula.{none, also}
@@ -17,48 +17,40 @@ use Rattle.formula_resolving.specs.declared.error.StaticError.TheVariants as sta
 use Rattle.formula_resolving.specs.Refusals as reading
 use Rattle.formula_resolving.specs.FirstCause.{IsFirstCause}
 use Rattle.formula_resolving.specs.BoundIds.{trees_bound}
+use Rattle.formula_resolving.proofs.Answered.{beside}
+use Rattle.resolved_formulas.specs.Answers.{with_inner}
 use Rattle.session_meaning.specs.declared.line.StatementError.{StatementError}
 use Rattle.session_meaning.specs.declared.line.StatementError.TheVariants as error
-use Rattle.session_meaning.specs.State.{State}
+use Rattle.session_meaning.specs.State.{State, known}
 use Rattle.session_meaning.specs.Points.{MeanNoPoint}
 use Rattle.problem_reading.specs.FromCommandTools.{use_of, Refuses, static_refusal}
 use Rattle.problem_reading.specs.Reading.{HasNumbers, IsUnread, IsReadable, AreNumbered, AppliesAmong, IsBefore, HasNoEarlier, IsFirstAmong}
-use Rattle.point_queries.specs.Asked.{Asks, RefusesAsking, RefusesBoth, AcceptsBoth, entry_names, stop_of, IsBoundName, IsClear, PointStop, IsValued, ValuedStop}
+use Rattle.point_queries.specs.Asked.{Asks, RefusesAsking, RefusesBoth, AcceptsBoth, entry_names, stop_of, IsClear, PointStop, IsValued, ValuedStop}
 use Rattle.session_meaning.specs.Meaning.{meaning, Meaning}
 use Rattle.session_meaning.specs.Uses.{Use}
 use Rattle.session_meaning.specs.Causes.{IsCause, HasNone, IsFirst}
 use Rattle.session_meaning.specs.Words.{before, order}
 use Rattle.formula_resolving.proofs.Order.{each_before}
-use Rattle.problem_reading.proofs.FromSessionState.{trees_find}
 use Rattle.problem_reading.proofs.CauseLemmas.{then_clear, overflow_here, to_point, first_in_reading, bound_first, readable_none}
 
 -- ---- names that are bound
 
-module _ {I : Type 0} (t : I → Tree) (bound : List (List ℕ × I)) where
-  there : (x : List ℕ) (o : Option I) (f : Tree) → option_map t o ≡ Some f → (i : I) × (o ≡ Some i)
-  there x None f e = absurd (cc)
-  there x (Some i) f e = (i, refl)
+module _ {Id : Type 0} (t : Id → Tree) (answers : List Tree) (bound : List (List ℕ × Id)) where
+  -- beside the answers, a name of at most 64 bytes stands for what is bound to it
+  pub some_found : (x : List ℕ) (o : Option Id) → o ≡ bound_to bound x → length x ≤ 64 → is_some o ≡ true → IsBound (with_inner answers (trees_bound t bound)) x
+  some_found x None e l h = absurd (false≢true h)
+  some_found x (Some i) e l h = (t i, beside t answers bound x l ∙ ap (option_map t) (sym e))
 
-  -- something is bound to some entry's name exactly where a tree is
-  pub bound_entries : (es : List PointEntry) → SomeOf (λ (e : PointEntry). IsBoundName bound e.name) es ↔ SomeOf (IsBound (trees_bound t bound)) (entry_names es)
-  bound_entries [] = (λ h. h, λ h. h)
-  bound_entries (e ∷ es) =
-      let r = bound_entries es in (
-        λ h. ⊎_elim (λ p. inl (t p.0, trees_find t bound e.name ∙ ap (option_map t) p.1)) (λ q. inr (r.0 q)) h,
-        λ h. ⊎_elim (λ p. inl (there e.name (bound_to bound e.name) p.0 (sym (trees_find t bound e.name) ∙ p.1))) (λ q. inr (r.1 q)) h,
-      )
+  pub none_found : (x : List ℕ) (o : Option Id) → o ≡ bound_to bound x → length x ≤ 64 → is_some o ≡ false → ¬ (IsBound (with_inner answers (trees_bound t bound)) x)
+  none_found x None e l h k =
+      let q = ap (option_map t) e ∙ sym (beside t answers bound x l) ∙ k.1 in
+      absurd (cc)
+  none_found x (Some i) e l h k = false≢true (sym h)
 
-pub met_entries : {I : Type 0} (t : I → Tree) (bound : List (List ℕ × I)) (es : List PointEntry) (b : Bool) → IsTrue b ↔ SomeOf (λ (e : PointEntry). IsBoundName bound e.name) es
-    → IsTrue b ↔ SomeOf (IsBound (trees_bound t bound)) (entry_names es)
-met_entries t bound es b h = let r = bound_entries t bound es in (λ x. r.0 (h.0 x), λ x. h.1 (r.1 x))
-
-pub some_found : {I : Type 0} (bound : List (List ℕ × I)) (x : List ℕ) (o : Option I) → o ≡ bound_to bound x → is_some o ≡ true → IsBoundName bound x
-some_found bound x None e h = absurd (false≢true h)
-some_found bound x (Some i) e h = (i, sym e)
-
-pub none_found : {I : Type 0} (bound : List (List ℕ × I)) (x : List ℕ) (o : Option I) → o ≡ bound_to bound x → is_some o ≡ false → ¬ (IsBoundName bound x)
-none_found bound x None e h k = let q = e ∙ k.1 in absurd (cc)
-none_found bound x (Some i) e h k = false≢true (sym h)
+-- what is said of the name of some entry
+pub some_name : (P : List ℕ → Type 0) (es : List PointEntry) → SomeOf (λ (e : PointEntry). P e.name) es ↔ SomeOf P (entry_names es)
+some_name P [] = (λ h. h, λ h. h)
+some_name P (e ∷ es) = let r = some_name P es in (λ h. ⊎_elim (λ p. inl p) (λ q. inr (r.0 q)) h, λ h. ⊎_elim (λ p. inl p) (λ q. inr (r.1 q)) h)
 
 -- ---- both commands
 
@@ -103,7 +95,7 @@ module _ (s : State) (f : FormulaTree) (es : List PointEntry) (limit : ℕ) (pri
 
 module _ (s : State) (f : FormulaTree) (es : List PointEntry) (numbers : HasNumbers s.names f) where
   abbrev Bound : Type 0
-  Bound = SomeOf (IsBound s.bound) (entry_names es)
+  Bound = SomeOf (IsBound (known s)) (entry_names es)
 
   listed : AreNumbered s.names (also f none)
   listed = (numbers, tt)
@@ -117,8 +109,8 @@ module _ (s : State) (f : FormulaTree) (es : List PointEntry) (numbers : HasNumb
     numbered_there : AreNumbered s.names m.formulas
     numbered_there = subst (AreNumbered s.names) (sym asks.formulas) listed
 
-    free_there : ¬ Bound → ¬ (SomeOf (IsBound s.bound) m.further)
-    free_there free = subst (λ xs. ¬ (SomeOf (IsBound s.bound) xs)) (sym asks.further) free
+    free_there : ¬ Bound → ¬ (SomeOf (IsBound (known s)) m.further)
+    free_there free = subst (λ xs. ¬ (SomeOf (IsBound (known s)) xs)) (sym asks.further) free
 
     none_there : (d : StaticError) → HasNoEarlier s (also f none) d → HasNoEarlier s m.formulas d
     none_there d first = subst (λ fs. HasNoEarlier s fs d) (sym asks.formulas) first
@@ -134,7 +126,7 @@ module _ (s : State) (f : FormulaTree) (es : List PointEntry) (numbers : HasNumb
         first_in_reading m s limit u numbered_there d l (subst (λ fs. IsFirstAmong s fs d) (sym asks.formulas) among) (λ k. free_there (free k)) (λ k. asks.context s limit)
 
     asking_bound : HasNoEarlier s (also f none) static.FormulaAsTerm → Bound → (limit : ℕ) (u : Use) → IsFirst m s limit u error.FormulaAsTerm
-    asking_bound first h limit u = bound_first m s limit u numbered_there (none_there static.FormulaAsTerm first) (subst (SomeOf (IsBound s.bound)) (sym asks.further) h)
+    asking_bound first h limit u = bound_first m s limit u numbered_there (none_there static.FormulaAsTerm first) (subst (SomeOf (IsBound (known s))) (sym asks.further) h)
 
   -- ---- what is clear
 
@@ -178,7 +170,7 @@ module _ (s : State) (f : FormulaTree) (es : List PointEntry) (numbers : HasNumb
   not_valued clear point e (inl h) = subst (RefusesBoth s f es) (sym h.0) (λ limit printed. both_refused s f es limit printed error.Unvalued h.1 (below_unvalued clear point limit printed))
   not_valued clear point e (inr h) = subst (RefusesBoth s f es) (sym h) (λ limit printed. out_of_memory s f es limit printed)
 
-  pub reading_passes : IsClear s f es → ¬ (MeanNoPoint s.context es) → IsValued s f es → OverflowsInReading s.context s.bound (place s.names) f → RefusesBoth s f es error.Overflow
+  pub reading_passes : IsClear s f es → ¬ (MeanNoPoint s.context es) → IsValued s f es → OverflowsInReading s.context (known s) (place s.names) f → RefusesBoth s f es error.Overflow
   reading_passes clear point valued h = λ limit printed. both_refused s f es limit printed error.Overflow (inl (inl h)) (below_overflow clear point valued limit printed)
 
   pub point_passes : IsClear s f es → ¬ (MeanNoPoint s.context es) → IsValued s f es → PassesLimit es → RefusesBoth s f es error.Overflow
@@ -187,26 +179,26 @@ module _ (s : State) (f : FormulaTree) (es : List PointEntry) (numbers : HasNumb
   -- ---- a formula that is not read
 
   -- no cause before another applies to the formula alone
-  alone : (e : StaticError) → EachOf (λ d. ¬ (reading.Applies s.context s.bound s.names f d)) (reading.before e) → HasNoEarlier s (also f none) e
+  alone : (e : StaticError) → EachOf (λ d. ¬ (reading.Applies s.context (known s) s.names f d)) (reading.before e) → HasNoEarlier s (also f none) e
   alone e first = none_alone (reading.before e) first
     where
-      none_alone : (ds : List StaticError) → EachOf (λ d. ¬ (reading.Applies s.context s.bound s.names f d)) ds → EachOf (λ d. ¬ (AppliesAmong s (also f none) d)) ds
+      none_alone : (ds : List StaticError) → EachOf (λ d. ¬ (reading.Applies s.context (known s) s.names f d)) ds → EachOf (λ d. ¬ (AppliesAmong s (also f none) d)) ds
       none_alone [] h = tt
       none_alone (d ∷ ds) h = (⊎_elim h.0 absurd, none_alone ds h.1)
 
   -- the first cause is the one of the reading
-  reading_first : (d : StaticError) → IsBefore d static.Overflow → reading.IsFirst s.context s.bound s.names f d → (IsBefore static.FormulaAsTerm d → ¬ Bound) → RefusesAsking s f es (static_refusal d)
+  reading_first : (d : StaticError) → IsBefore d static.Overflow → reading.IsFirst s.context (known s) s.names f d → (IsBefore static.FormulaAsTerm d → ¬ Bound) → RefusesAsking s f es (static_refusal d)
   reading_first d l first free =
       let among : IsFirstAmong s (also f none) d = record { applies = inl first.applies; first = alone d first.first } in
       λ c asks limit printed other. asking_first c asks d l among free limit (use_of None printed)
 
-  bound_before : ¬ (reading.Applies s.context s.bound s.names f static.Unbound) → Bound → RefusesAsking s f es error.FormulaAsTerm
+  bound_before : ¬ (reading.Applies s.context (known s) s.names f static.Unbound) → Bound → RefusesAsking s f es error.FormulaAsTerm
   bound_before bound h = λ c asks limit printed other. asking_bound c asks (alone static.FormulaAsTerm (bound, tt)) h limit (use_of None printed)
 
   abbrev Stopped : Option StatementError → Type 0
-  Stopped o = MatchOption o (IsClear s f es × OverflowsInReading s.context s.bound (place s.names) f) (RefusesAsking s f es)
+  Stopped o = MatchOption o (IsClear s f es × OverflowsInReading s.context (known s) (place s.names) f) (RefusesAsking s f es)
 
-  not_read : (d : StaticError) (met : Bool) → (IsTrue met ↔ Bound) → IsFirstCause s.context s.bound s.names f d → Stopped (stop_of (static_refusal d) met)
+  not_read : (d : StaticError) (met : Bool) → (IsTrue met ↔ Bound) → IsFirstCause s.context (known s) s.names f d → Stopped (stop_of (static_refusal d) met)
   not_read static.Unbound met is first = reading_first static.Unbound (search rules) first absurd
   not_read static.Memory met is first = λ c asks limit printed other. absurd (other refl)
   not_read static.FormulaAsTerm true is first = bound_before first.first.0 (is.0 refl)
@@ -224,7 +216,7 @@ module _ (s : State) (f : FormulaTree) (es : List PointEntry) (numbers : HasNumb
   not_read static.Depth false is first = reading_first static.Depth (search rules) first (λ l h. false≢true (is.1 h))
   not_read static.Overflow false is first = (
     record { reading = alone static.Overflow first.first; entries = λ h. false≢true (is.1 h) },
-    subst (λ ns. OverflowsInReading s.context s.bound (place ns) f) numbers first.applies,
+    subst (λ ns. OverflowsInReading s.context (known s) (place ns) f) numbers first.applies,
   )
 
   pub unread_stops : (e : StatementError) (met : Bool) → (IsTrue met ↔ Bound) → IsUnread s f e → (o : Option StatementError) → o ≡ stop_of e met → Stopped o
@@ -233,7 +225,7 @@ module _ (s : State) (f : FormulaTree) (es : List PointEntry) (numbers : HasNumb
   -- ---- a formula that is read
 
   pub read_clear : IsReadable s f → ¬ Bound → IsClear s f es
-  read_clear a h = record { reading = alone static.Overflow (each_before (λ d. ¬ (reading.Applies s.context s.bound s.names f d)) static.Overflow (readable_none s f a)); entries = h }
+  read_clear a h = record { reading = alone static.Overflow (each_before (λ d. ¬ (reading.Applies s.context (known s) s.names f d)) static.Overflow (readable_none s f a)); entries = h }
 
   pub read_bound : IsReadable s f → Bound → RefusesAsking s f es error.FormulaAsTerm
   read_bound a h = bound_before a.bound_names h

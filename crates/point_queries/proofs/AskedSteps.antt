@@ -12,7 +12,7 @@ use Rattle.atom_normal.specs.NormalForm.{IsNormal}
 use Rattle.qe_syntax.specs.declared.entries.PointEntry.{PointEntry}
 use Rattle.qe_syntax.specs.Point.{PassesLimit, IsPointOf}
 use Rattle.qe_syntax.specs.PointNumbers.{Numbers, point_of}
-use Rattle.qe_syntax.specs.Writable.{IsWritableFormula, AreWritableEntries}
+use Rattle.qe_syntax.specs.Writable.{AreWritableEntries}
 use Rattle.statement_syntax.specs.Statements.{Holds}
 use Rattle.qe_syntax.specs.Trees.{FormulaTree}
 use Rattle.qe_syntax.specs.Value.{same_name}
@@ -24,20 +24,19 @@ use Rattle.resolved_formulas.specs.Resolving.{formula_variables, resolve}
 use Rattle.resolved_formulas.proofs.PlaceLaws.{after_has, after_distinct, in_either}
 use Rattle.resolved_formulas.proofs.ResolvedTruth.{resolving_is_normal}
 use Rattle.formula_resolving.specs.Numbering.{Grows}
-use Rattle.formula_resolving.specs.BoundIds.{AreIds}
 use Rattle.formula_store.specs.declared.id.FormulaId.{FormulaId}
 use Rattle.formula_store.specs.Nodes.{tree, IsId}
 use Rattle.session_meaning.specs.declared.line.StatementError.{StatementError}
 use Rattle.session_meaning.specs.declared.line.StatementError.TheVariants as error
-use Rattle.problem_reading.specs.FromSessionState.{SessionState, state_of, IsSessionState, KeepsState}
-use Rattle.session_meaning.specs.State.{State}
+use Rattle.problem_reading.specs.FromSessionState.{SessionState, state_of, IsSessionState, KeepsState, IsScripted, HasIds}
+use Rattle.session_meaning.specs.State.{State, known}
 use Rattle.problem_reading.specs.Reading.{HasNumbers, IsReadable}
 use Rattle.point_queries.specs.Asked.{HaveNumbers, RefusesBoth, entry_names, IsReadAs, IsMeantPoint, PointStop, IsValued, ValuedStop, IsAsked}
 use Rattle.session_meaning.specs.Meaning.{meaning, numbered}
 use Rattle.session_meaning.specs.Points.{MeanNoPoint}
 use Rattle.point_queries.proofs.AskedLemmas.{no_point, not_valued, reading_passes, point_passes, all_clear}
 use Rattle.point_queries.proofs.CaseSteps.{on_ok}
-use Rattle.problem_reading.proofs.FromSessionState.{state_parts, same_state, same_session, length_grows, sound_with, numbers_stay, AllVariables, both, variables_of_formula, all_put_in}
+use Rattle.problem_reading.proofs.FromSessionState.{state_parts, same_state, same_session, length_grows, sound_with, numbers_stay, AllVariables, both, known_formulas, all_put_in}
 use Rattle.point_queries.proofs.PointLemmas.{of_theory}
 use Rattle.point_queries.proofs.EntryLemmas.{names_of_entries}
 
@@ -57,7 +56,7 @@ module _ (old new : SessionState) (f : FormulaTree) (es : List PointEntry) (stat
   pub theory : context_of new.context ≡ s.context
   theory = ap context_of k.context
 
-  pub ids_there : AreIds (IsId new.store) new.bindings
+  pub ids_there : HasIds new
   ids_there = (same_session old new state k).ids
 
   module _ (id : Option FormulaId) (read : IsReadAs (state_of old) f es new id) where
@@ -83,8 +82,8 @@ module _ (old new : SessionState) (f : FormulaTree) (es : List PointEntry) (stat
 
         pub all_asked : (i : FormulaId) (q : Numbers) → id ≡ Some i → point ≡ Some q → AreWritableEntries es → IsAsked s f es new i q
         all_asked i q id_is point_is proper =
-            let formula : IsReadable s f × IsMade (IsId new.store) (tree new.store) i (resolve s.context s.bound s.names f)
-            = subst (λ o. MatchOption o (OverflowsInReading s.context s.bound (place s.names) f) (λ j. IsReadable s f × IsMade (IsId new.store) (tree new.store) j (resolve s.context s.bound s.names f))) id_is read.formula in
+            let formula : IsReadable s f × IsMade (IsId new.store) (tree new.store) i (resolve s.context (known s) s.names f)
+            = subst (λ o. MatchOption o (OverflowsInReading s.context (known s) (place s.names) f) (λ j. IsReadable s f × IsMade (IsId new.store) (tree new.store) j (resolve s.context (known s) s.names f))) id_is read.formula in
             let with_numbers : IsPointOf es (point_of q) × (¬ (PassesLimit es))
             = subst (λ o. MatchOption o (PassesLimit es) (λ p. IsPointOf es (point_of p) × (¬ (PassesLimit es)))) point_is meant.numbers in
             record {
@@ -98,8 +97,8 @@ module _ (old new : SessionState) (f : FormulaTree) (es : List PointEntry) (stat
   -- ---- what is asked
 
   module _ (i : FormulaId) (q : Numbers) (a : IsAsked (state_of old) f es new i q) where
-    pub asked_normal : Every (IsNormal s.context) (resolve s.context s.bound s.names f)
-    asked_normal = subst (λ ns. Every (IsNormal s.context) (resolve s.context s.bound ns f)) numbers (resolving_is_normal s.context s.bound s.names f (λ x t e. (state.sound.formulas x t e).normal) a.readable)
+    pub asked_normal : Every (IsNormal s.context) (resolve s.context (known s) s.names f)
+    asked_normal = subst (λ ns. Every (IsNormal s.context) (resolve s.context (known s) ns f)) numbers (resolving_is_normal s.context (known s) s.names f (λ x t e. (known_formulas s state.sound x t e).normal) a.readable)
 
     pub normal_there : Every (IsNormal (context_of new.context)) (tree new.store i)
     normal_there = subst (λ c. Every (IsNormal c) (tree new.store i)) (sym theory) (subst (λ (t : Tree). Every (IsNormal s.context) t) (sym a.made.same) asked_normal)
@@ -119,20 +118,20 @@ each_entry [] P h = tt
 each_entry (e ∷ es) P h = (h e (inl refl), each_entry es P (λ d k. h d (inr k)))
 
 module _ (state : SessionState) (names : List (List ℕ)) (f : FormulaTree) (es : List PointEntry) (h : IsSessionState state) (grown : Grows state.names names)
-    (is : names ≡ fold with_name state.names (formula_variables f ++ entry_names es)) (proper : IsWritableFormula f) (proper_entries : AreWritableEntries es) where
+    (is : names ≡ fold with_name state.names (formula_variables f ++ entry_names es)) (proper : IsScripted f) (proper_entries : AreWritableEntries es) where
   -- the state where the variables of the command have their numbers
   abbrev pub named_session : SessionState
-  named_session = record { alloc = state.alloc; context = state.context; names = names; bindings = state.bindings; standing = state.standing; store = state.store; kept = state.kept }
+  named_session = record { alloc = state.alloc; context = state.context; names = names; bindings = state.bindings; standing = state.standing; answers = state.answers; store = state.store; kept = state.kept }
 
   pub start : state_of named_session ≡ numbered (meaning (Holds f es)) (state_of state)
-  start = state_parts _ _ _ _ _ _ _ _ refl (is ∙ ap (λ xs. fold with_name state.names (xs ++ entry_names es)) (sym (append-nil (formula_variables f)))) refl refl
+  start = state_parts _ _ _ _ _ _ _ _ _ _ refl (is ∙ ap (λ xs. fold with_name state.names (xs ++ entry_names es)) (sym (append-nil (formula_variables f)))) refl refl refl
 
   pub session_named : IsSessionState named_session
   session_named = record {
-    ids = h.ids;
+    ids = record { bound = h.ids.bound; answers = h.ids.answers };
     bound_once = h.bound_once;
     sound = sound_with (state_of state) names h.sound (subst (λ ms. IsDistinct same_name ms) (sym is) (after_distinct (formula_variables f ++ entry_names es) state.names h.sound.names_once))
-        (subst AllVariables (sym is) (all_put_in state.names (formula_variables f ++ entry_names es) h.sound.variables (both (formula_variables f) (entry_names es) (variables_of_formula f proper) (names_of_entries es proper_entries))))
+        (subst AllVariables (sym is) (all_put_in state.names (formula_variables f ++ entry_names es) h.sound.variables (both (formula_variables f) (entry_names es) proper.variables (names_of_entries es proper_entries))))
         (length_grows state.names names grown);
   }
 
@@ -146,7 +145,7 @@ module _ (state : SessionState) (names : List (List ℕ)) (f : FormulaTree) (es 
 
   module _ (later : SessionState) (k : KeepsState named_session later) where
     pub state_later : {E : Type 0} (r : Result E StatementError) → OnOk r (state_of later ≡ numbered (meaning (Holds f es)) (state_of state))
-    state_later r = on_ok r (same_state named_session later h.ids k ∙ start)
+    state_later r = on_ok r (same_state named_session later session_named.ids k ∙ start)
 
     pub session_later : {E : Type 0} (r : Result E StatementError) → OnOk r (IsSessionState later)
     session_later r = on_ok r (same_session named_session later session_named k)

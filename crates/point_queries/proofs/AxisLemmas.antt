@@ -5,7 +5,7 @@ use Rattle.std.proofs.Props.{props}
 use Rattle.std.proofs.Math.IntN.{ℤ, pos, negsuc}
 use Rattle.std.proofs.lemmas.Int.{ints}
 use Rattle.std.proofs.lemmas.Bool.{ne_eqb}
-use Rattle.std.specs.List.{AllByRecursion, IsDistinct, HoldsAt, AllWithin}
+use Rattle.std.specs.List.{AllByRecursion, IsDistinct, HoldsAt, AllWithin, fold}
 use Rattle.std.specs.Prelude.{◌<ℤ◌, ◌≤ℤ◌, slice_get, unsigned_abs}
 use Rattle.exact_numbers.specs.declared.fraction.Fraction.{Fraction}
 use Rattle.exact_numbers.specs.Limit.{InLimit}
@@ -21,7 +21,7 @@ use Rattle.qe_syntax.specs.declared.entries.PointEntry.{PointEntry}
 use Rattle.qe_syntax.specs.Point.{HasEntry, NamesTwice, IsZeroBelow, IsCommonMultiple, lowest_terms}
 use Rattle.qe_syntax.specs.Valued.{IsIn}
 use Rattle.qe_syntax.specs.Writable.{AreWritableEntries}
-use Rattle.formula_tree.specs.Names.{place}
+use Rattle.formula_tree.specs.Names.{place, with_name}
 use Rattle.resolved_formulas.proofs.PlaceLaws.{slice_place}
 use Rattle.statement_syntax.specs.declared.grid.Ratio.{Ratio}
 use Rattle.statement_syntax.specs.declared.grid.GridAxis.{GridAxis}
@@ -32,7 +32,7 @@ use Rattle.point_grid.specs.Steps.{name_of, IsRising}
 use Rattle.point_grid.proofs.Multiples.{with_grows, common_positive}
 use Rattle.session_meaning.specs.Points.{MeanNoPoint}
 use Rattle.session_meaning.specs.Grids.{lows, highs, steps, IsFlat, MeanNoGrid, IsFraction, IsAxis, AreAxes, ArePast}
-use Rattle.point_queries.specs.Asked.{HaveNumbers}
+use Rattle.point_queries.specs.Asked.{HaveNumbers, entry_names}
 use Rattle.point_queries.specs.GridSteps.{IsDivided, IsPastRatio, IsPastAxis}
 use Rattle.point_queries.proofs.PointLemmas.{whole_entries}
 
@@ -236,3 +236,10 @@ common_of_theory Integers number written axes proper meant h =
     let p = common_positive axes in
     let l = divisor_at_most {d = common axes} {a = pos 1} (omega (arith, ints)) d in
     omega (arith, ints, l, p)
+
+-- ---- the names of the axes
+
+-- one more axis has one more name
+pub named_more : (names : List (List ℕ)) (axes : List GridAxis) (a : GridAxis) → with_name (fold with_name names (entry_names (lows axes))) a.name ≡ fold with_name names (entry_names (lows (axes ++ a ∷ [])))
+named_more names [] a = refl
+named_more names (b ∷ axes) a = named_more (with_name names b.name) axes a

@@ -15,7 +15,7 @@ use Rattle.atom_normal.proofs.Stepped.{ok_map}
 use Rattle.elimination_reference.specs.Cases.{Case, case_sign}
 use Rattle.elimination_reference.specs.AnswerParts.{guards_of}
 use Rattle.session_meaning.specs.FromPlainCases.{PrintedCase, case_seen}
-use Rattle.qe_syntax.specs.Writable.{IsWritableFormula, AreWritableFormulas}
+use Rattle.qe_syntax.specs.Writable.{AreWritableFormulas}
 use Rattle.statement_syntax.specs.Statements.{Qea}
 use Rattle.qe_syntax.specs.Trees.{FormulaTree, FormulaTrees}
 use Rattle.qe_syntax.specs.Value.{NamedPoint, same_name}
@@ -29,8 +29,8 @@ use Rattle.session_meaning.specs.FromAnswerTexts.{cases_text, AreCasesWithin}
 use Rattle.session_meaning.specs.declared.line.Line.{Line}
 use Rattle.session_meaning.specs.declared.line.StatementError.{StatementError}
 use Rattle.session_meaning.specs.declared.line.StatementError.TheVariants as error
-use Rattle.problem_reading.specs.FromSessionState.{SessionState, state_of, IsSessionFormula, IsSound, IsSessionState, KeepsState}
-use Rattle.session_meaning.specs.State.{State}
+use Rattle.problem_reading.specs.FromSessionState.{SessionState, state_of, IsSessionFormula, IsSound, IsSessionState, KeepsState, IsScripted}
+use Rattle.session_meaning.specs.State.{State, known}
 use Rattle.session_meaning.specs.Assumptions.{Hold, assumed}
 use Rattle.session_meaning.specs.Cases.{IsCaseOf, IsCaseAnswer}
 use Rattle.problem_reading.specs.FromSharedForms.{FormsError, CasesFault, Way, IsCaseFor, AreCasesFor, AreWantedCases, AreCasesBy}
@@ -48,7 +48,7 @@ use Rattle.session_meaning.specs.FormulaAnswers.{negation_normal_of}
 use Rattle.problem_reading.proofs.AssumptionLemmas.{assumed_hold}
 use Rattle.problem_reading.proofs.CauseLemmas.{HasNoPoint, then_clear, unread_refuses, ready_below, readable_below, below_bindings}
 use Rattle.problem_reading.proofs.FromSharedForms.{err_map, IsReferenceCase, reference_known, left_no_longer, turned_under, turned_along, cases_for, cases_within, orderly_members}
-use Rattle.problem_reading.proofs.FromSessionState.{state_parts, same_state, same_session, length_grows, sound_with, AllVariables, both, not_empty, variables_of_formula, variables_of_all, all_put_in}
+use Rattle.problem_reading.proofs.FromSessionState.{state_parts, same_state, same_session, length_grows, sound_with, AllVariables, both, not_empty, variables_of_all, all_put_in}
 use Rattle.problem_reading.proofs.ReadLemmas.{numbers_of, readable_formula, assumed_normal}
 use Rattle.problem_reading.proofs.ReadTruth.{truth_as_written}
 
@@ -83,17 +83,17 @@ module _ (s : State) (f : FormulaTree) (gs : FormulaTrees) (numbers : AreNumbere
     clear : IsAccepted asked s limit said
     clear = then_clear asked s limit said error.Text error.Memory refl to_text (λ k. elim k.1 [ inl l ↦ l.determined | inr n ↦ n ])
 
-    pub cases_stopped : (e : FormsError) → CasesFault s.context limit (resolve s.context s.bound s.names f) e → Refuses s limit said (Qea f gs) (forms_refusal e)
+    pub cases_stopped : (e : FormsError) → CasesFault s.context limit (resolve s.context (known s) s.names f) e → Refuses s limit said (Qea f gs) (forms_refusal e)
     cases_stopped forms.Nodes k other = record { applies = inr (λ p. p, k); first = to_nodes }
     cases_stopped forms.Overflow k other = record { applies = inr (λ p. p, k); first = ready_below asked s limit said numbers plain readable (λ q. q) }
     cases_stopped forms.Memory k other = absurd (other refl)
 
     -- ---- the case list
 
-    module _ (sound : IsSound s) (own : IsSessionFormula s.context (length s.names) (resolve s.context s.bound s.names f)) (w : Way) (left : List Case)
-        (found : AreCasesBy w s.context (assumed s gs) limit (resolve s.context s.bound s.names f) left) where
+    module _ (sound : IsSound s) (own : IsSessionFormula s.context (length s.names) (resolve s.context (known s) s.names f)) (w : Way) (left : List Case)
+        (found : AreCasesBy w s.context (assumed s gs) limit (resolve s.context (known s) s.names f) left) where
       abbrev t : Tree
-      t = resolve s.context s.bound s.names f
+      t = resolve s.context (known s) s.names f
 
       cases : AreCasesFor s.context (assumed s gs) t left
       cases = cases_for s.context (assumed s gs) t w limit left own.normal found
@@ -101,7 +101,7 @@ module _ (s : State) (f : FormulaTree) (gs : FormulaTrees) (numbers : AreNumbere
       assumptions_say : (p : NamedPoint) → Of s.context p → Hold s gs p → EachOf (λ k. Says k (at_names s.names p)) (assumed s gs)
       assumptions_say p of hold = assumed_hold s f gs readable sound.names_once numbers p of hold
 
-      as_written : (p : NamedPoint) → Of s.context p → written.TrueAt (bound_truth s.context s.bound s.names) s.context f p ↔ TrueAt s.context t (at_names s.names p)
+      as_written : (p : NamedPoint) → Of s.context p → written.TrueAt (bound_truth s.context (known s) s.names) s.context f p ↔ TrueAt s.context t (at_names s.names p)
       as_written p of = truth_as_written s f (numbers.0) sound.names_once (readable.0) p of
 
       case_of : (k : Case) → IsCaseFor s.context (assumed s gs) t k → IsCaseOf s f gs k
@@ -139,22 +139,22 @@ module _ (s : State) (f : FormulaTree) (gs : FormulaTrees) (numbers : AreNumbere
       cases_below = cases_within s.context (assumed s gs) (length s.names) t left own.within cases
 
     -- a list of the reference elimination that is too long
-    module _ (sound : IsSound s) (own : IsSessionFormula s.context (length s.names) (resolve s.context s.bound s.names f)) (left : List Case)
-        (wanted : AreWantedCases s.context (assumed s gs) limit (resolve s.context s.bound s.names f) left) where
-      each_within : (ks : List Case) → EachOf (IsReferenceCase s.context (length s.names) (resolve s.context s.bound s.names f)) ks → EachOf (λ (k : Case). Every (IsAtomWithin (length s.names)) k.guard) ks
+    module _ (sound : IsSound s) (own : IsSessionFormula s.context (length s.names) (resolve s.context (known s) s.names f)) (left : List Case)
+        (wanted : AreWantedCases s.context (assumed s gs) limit (resolve s.context (known s) s.names f) left) where
+      each_within : (ks : List Case) → EachOf (IsReferenceCase s.context (length s.names) (resolve s.context (known s) s.names f)) ks → EachOf (λ (k : Case). Every (IsAtomWithin (length s.names)) k.guard) ks
       each_within [] h = tt
       each_within (k ∷ ks) h = (h.0.formula.within.atoms, each_within ks h.1)
 
       cases_too_long : (e : StatementError) → LineFault printed (cases_text s.names left) e → Refuses s limit said (Qea f gs) e
       cases_too_long e (inl k) =
-          let known = reference_known s.context (length s.names) (resolve s.context s.bound s.names f) own limit wanted.cases wanted.cost wanted.same in
+          let known = reference_known s.context (length s.names) (resolve s.context (known s) s.names f) own limit wanted.cases wanted.cost wanted.same in
           let short = left_no_longer s.context (assumed s gs) s.names (not_empty s.names sound.variables) wanted.cases left (each_within wanted.cases known) wanted.simplified in
           subst (Refuses s limit said (Qea f gs)) (sym k.0)
           (λ other. record { applies = inr (λ p. p, k.1.0, inr (wanted.cases, wanted.cost, wanted.same, omega (arith, k.1.1, short))); first = to_text })
       cases_too_long e (inr k) = λ other. absurd (other k)
 
-    line_refuses : IsSound s → IsSessionFormula s.context (length s.names) (resolve s.context s.bound s.names f) → (w : Way) (left : List Case)
-        → AreCasesBy w s.context (assumed s gs) limit (resolve s.context s.bound s.names f) left → (e : StatementError) → LineFault printed (cases_text s.names left) e → CasesRefuse w s limit printed f gs e
+    line_refuses : IsSound s → IsSessionFormula s.context (length s.names) (resolve s.context (known s) s.names f) → (w : Way) (left : List Case)
+        → AreCasesBy w s.context (assumed s gs) limit (resolve s.context (known s) s.names f) left → (e : StatementError) → LineFault printed (cases_text s.names left) e → CasesRefuse w s limit printed f gs e
     line_refuses sound own way.ByReference left found e k = cases_too_long sound own left found e k
     line_refuses sound own way.ByCases left found e (inl k) = λ other. absurd (other k.0)
     line_refuses sound own way.ByCases left found e (inr k) = λ other more. absurd (more k)
@@ -168,27 +168,27 @@ refuses_by way.ByReference s limit printed f gs e h = h
 
 -- in an engine's theory, which is that of the state
 module _ (old : SessionState) (f : FormulaTree) (gs : FormulaTrees) (h : IsSessionState old) (numbers : AreNumbered old.names (also f gs)) (readable : AreReadable (state_of old) (also f gs))
-    (proper : IsWritableFormula f) (proper_given : AreWritableFormulas gs) (c : Context) (theory : c ≡ (state_of old).context) where
+    (proper : IsScripted f) (proper_given : AreWritableFormulas gs) (c : Context) (theory : c ≡ (state_of old).context) where
   abbrev s : State
   s = state_of old
 
-  module _ (t : Tree) (same : t ≡ resolve s.context s.bound s.names f) where
+  module _ (t : Tree) (same : t ≡ resolve s.context (known s) s.names f) where
     pub normal_there : Every (IsNormal c) t
-    normal_there = subst (λ d. Every (IsNormal d) t) (sym theory) (subst (Every (IsNormal s.context)) (sym same) (readable_formula f s (numbers.0) h.sound proper (readable.0)).normal)
+    normal_there = subst (λ d. Every (IsNormal d) t) (sym theory) (subst (Every (IsNormal s.context)) (sym same) (readable_formula f s (numbers.0) h.sound proper.proper (readable.0)).normal)
 
     pub stopped_there : (limit m : ℕ) → m ≡ limit → (e : FormsError) → CasesFault c m t e → (printed : Bool) → Refuses s limit (use_of None printed) (Qea f gs) (forms_refusal e)
     stopped_there limit m limits e d printed =
         cases_stopped s f gs numbers limit printed readable e
-        (subst (λ n. CasesFault s.context n (resolve s.context s.bound s.names f) e) limits (subst (λ u. CasesFault s.context m u e) same (subst (λ d. CasesFault d m t e) theory d)))
+        (subst (λ n. CasesFault s.context n (resolve s.context (known s) s.names f) e) limits (subst (λ u. CasesFault s.context m u e) same (subst (λ d. CasesFault d m t e) theory d)))
 
     module _ (ks : List Atom) (same_atoms : ks ≡ assumed s gs) where
       pub atoms_there : EachOf (IsNormal c) ks
       atoms_there = subst (λ d. EachOf (IsNormal d) ks) (sym theory) (subst (EachOf (IsNormal s.context)) (sym same_atoms) (assumed_normal s h.sound f gs numbers readable proper_given))
 
-      pub found_there : (w : Way) (limit m : ℕ) → m ≡ limit → (left : List Case) → AreCasesBy w c ks m t left → AreCasesBy w s.context (assumed s gs) limit (resolve s.context s.bound s.names f) left
+      pub found_there : (w : Way) (limit m : ℕ) → m ≡ limit → (left : List Case) → AreCasesBy w c ks m t left → AreCasesBy w s.context (assumed s gs) limit (resolve s.context (known s) s.names f) left
       found_there w limit m limits left found =
-          subst (λ n. AreCasesBy w s.context (assumed s gs) n (resolve s.context s.bound s.names f) left) limits
-          (subst (λ ls. AreCasesBy w s.context ls m (resolve s.context s.bound s.names f) left) same_atoms
+          subst (λ n. AreCasesBy w s.context (assumed s gs) n (resolve s.context (known s) s.names f) left) limits
+          (subst (λ ls. AreCasesBy w s.context ls m (resolve s.context (known s) s.names f) left) same_atoms
           (subst (λ u. AreCasesBy w s.context ks m u left) same (subst (λ d. AreCasesBy w d ks m t left) theory found)))
 
 pub unread_there : {T : Type 0} (r : Result T StatementError) (s : State) (f : FormulaTree) (gs : FormulaTrees) → AreNumbered s.names (also f gs) → (limit : ℕ) → IfErr r (AreUnread s (also f gs))
@@ -203,10 +203,10 @@ attempt_stopped r w s limit printed f gs h = err_map r (λ e t. refuses_by w s l
 
 -- the line of the cases that were found, in the state that finding them left
 module _ (state later : SessionState) (f : FormulaTree) (gs : FormulaTrees) (h : IsSessionState state) (numbers : AreNumbered state.names (also f gs)) (readable : AreReadable (state_of state) (also f gs))
-    (kept : KeepsState state later) (proper : IsWritableFormula f) (limit : ℕ) (printed : Bool) (w : Way) (items : List PrintedCase)
-    (found : AreCasesBy w (state_of state).context (assumed (state_of state) gs) limit (resolve (state_of state).context (state_of state).bound state.names f) (map case_seen items)) where
-  own : IsSessionFormula (state_of state).context (length state.names) (resolve (state_of state).context (state_of state).bound state.names f)
-  own = readable_formula f (state_of state) (numbers.0) h.sound proper (readable.0)
+    (kept : KeepsState state later) (proper : IsScripted f) (limit : ℕ) (printed : Bool) (w : Way) (items : List PrintedCase)
+    (found : AreCasesBy w (state_of state).context (assumed (state_of state) gs) limit (resolve (state_of state).context (known (state_of state)) state.names f) (map case_seen items)) where
+  own : IsSessionFormula (state_of state).context (length state.names) (resolve (state_of state).context (known (state_of state)) state.names f)
+  own = readable_formula f (state_of state) (numbers.0) h.sound proper.proper (readable.0)
 
   pub within_there : AreCasesWithin (length later.names) (map case_seen items)
   within_there =
@@ -235,20 +235,20 @@ module _ (first second : SessionState) (h : IsSessionState first) (k : KeepsStat
 -- ---- the names of the command
 
 module _ (state : SessionState) (names : List (List ℕ)) (f : FormulaTree) (gs : FormulaTrees) (h : IsSessionState state) (grown : Grows state.names names)
-    (is : names ≡ fold with_name state.names (formula_variables f ++ all_variables gs)) (proper : IsWritableFormula f) (proper_given : AreWritableFormulas gs) where
+    (is : names ≡ fold with_name state.names (formula_variables f ++ all_variables gs)) (proper : IsScripted f) (proper_given : AreWritableFormulas gs) where
   -- the state where the variables of the command have their numbers
   abbrev pub named_session : SessionState
-  named_session = record { alloc = state.alloc; context = state.context; names = names; bindings = state.bindings; standing = state.standing; store = state.store; kept = state.kept }
+  named_session = record { alloc = state.alloc; context = state.context; names = names; bindings = state.bindings; standing = state.standing; answers = state.answers; store = state.store; kept = state.kept }
 
   start : state_of named_session ≡ numbered (meaning (Qea f gs)) (state_of state)
-  start = state_parts _ _ _ _ _ _ _ _ refl (is ∙ ap (λ xs. fold with_name state.names xs) (sym (append-nil (formula_variables f ++ all_variables gs)))) refl refl
+  start = state_parts _ _ _ _ _ _ _ _ _ _ refl (is ∙ ap (λ xs. fold with_name state.names xs) (sym (append-nil (formula_variables f ++ all_variables gs)))) refl refl refl
 
   pub session_named : IsSessionState named_session
   session_named = record {
-    ids = h.ids;
+    ids = record { bound = h.ids.bound; answers = h.ids.answers };
     bound_once = h.bound_once;
     sound = sound_with (state_of state) names h.sound (subst (λ ms. IsDistinct same_name ms) (sym is) (after_distinct (formula_variables f ++ all_variables gs) state.names h.sound.names_once))
-        (subst AllVariables (sym is) (all_put_in state.names (formula_variables f ++ all_variables gs) h.sound.variables (both (formula_variables f) (all_variables gs) (variables_of_formula f proper) (variables_of_all gs proper_given))))
+        (subst AllVariables (sym is) (all_put_in state.names (formula_variables f ++ all_variables gs) h.sound.variables (both (formula_variables f) (all_variables gs) proper.variables (variables_of_all gs proper_given))))
         (length_grows state.names names grown);
   }
 
@@ -265,7 +265,7 @@ module _ (state : SessionState) (names : List (List ℕ)) (f : FormulaTree) (gs 
 
   module _ (later : SessionState) (k : KeepsState named_session later) where
     pub state_later : {T : Type 0} (r : Result T StatementError) → OnOk r (state_of later ≡ numbered (meaning (Qea f gs)) (state_of state))
-    state_later r = on_ok r (same_state named_session later h.ids k ∙ start)
+    state_later r = on_ok r (same_state named_session later session_named.ids k ∙ start)
 
     pub session_later : {T : Type 0} (r : Result T StatementError) → OnOk r (IsSessionState later)
     session_later r = on_ok r (same_session named_session later session_named k)

@@ -10,7 +10,7 @@ use Rattle.point_grid.specs.declared.axis.Axis.{Axis}
 use Rattle.point_grid.specs.Grids.{grid_of}
 use Rattle.session_meaning.specs.declared.line.StatementError.{StatementError}
 use Rattle.session_meaning.specs.declared.line.StatementError.TheVariants as error
-use Rattle.session_meaning.specs.State.{State}
+use Rattle.session_meaning.specs.State.{State, known}
 use Rattle.session_meaning.specs.Grids.{lows, AreAxes, MeanNoGrid, PassesGrid, HasTooManyPoints}
 use Rattle.session_meaning.specs.Meaning.{Meaning, meaning}
 use Rattle.session_meaning.specs.Points.{IsQuantified}
@@ -58,14 +58,14 @@ module _ (s : State) (f : FormulaTree) (axes : List GridAxis) (numbers : HasNumb
         below_quantified : IsGridClear error.Quantified
         below_quantified limit printed = then_clear m s limit (use_of None printed) error.Unvalued error.Quantified refl (below_unvalued limit printed) valued
 
-        pub grid_quantified : (limit : ℕ) → IsQuantified s.bound f → RefusesGrid s limit f axes error.Quantified
+        pub grid_quantified : (limit : ℕ) → IsQuantified (known s) f → RefusesGrid s limit f axes error.Quantified
         grid_quantified limit h = λ printed other. record { applies = inl h; first = below_quantified limit printed }
 
-        module _ (free : ¬ (IsQuantified s.bound f)) where
+        module _ (free : ¬ (IsQuantified (known s) f)) where
           below_overflow : IsGridClear error.Overflow
           below_overflow limit printed = then_clear m s limit (use_of None printed) error.Quantified error.Overflow refl (below_quantified limit printed) free
 
-          pub grid_unread : (limit : ℕ) → OverflowsInReading s.context s.bound (place s.names) f → RefusesGrid s limit f axes error.Overflow
+          pub grid_unread : (limit : ℕ) → OverflowsInReading s.context (known s) (place s.names) f → RefusesGrid s limit f axes error.Overflow
           grid_unread limit h = λ printed other. record { applies = inl (inl (inl h)); first = below_overflow limit printed }
 
           module _ (readable : IsReadable s f) where
@@ -90,7 +90,7 @@ module _ (s : State) (f : FormulaTree) (axes : List GridAxis) (numbers : HasNumb
                   then_clear m s limit u error.Text error.Memory refl text (λ k. ⊎_elim (λ l. l.determined) (λ n. n) k.1)
 
               -- a number passes the limit at a point of the grid
-              pub truths_stop : (limit : ℕ) (numbered : List Axis) → AreAxes (place s.names) axes numbered → (e : StatementError) → TruthsStop (resolve s.context s.bound s.names f) (grid_of numbered) e → RefusesGrid s limit f axes e
+              pub truths_stop : (limit : ℕ) (numbered : List Axis) → AreAxes (place s.names) axes numbered → (e : StatementError) → TruthsStop (resolve s.context (known s) s.names f) (grid_of numbered) e → RefusesGrid s limit f axes e
               truths_stop limit numbered are e (inl h) =
                   subst (RefusesGrid s limit f axes) (sym h.0) (λ printed other. record { applies = inr (λ k. k, record { axes = numbered; meant = are; few = λ many. few (numbered, are, many); passes = h.1 }); first = below_overflow limit printed })
               truths_stop limit numbered are e (inr h) = subst (RefusesGrid s limit f axes) (sym h) (memory limit)

@@ -12,7 +12,6 @@ use Rattle.formula_meaning.specs.Tree.{Tree, TrueAt}
 use Rattle.atom_normal.specs.Atoms.{context_of}
 use Rattle.atom_normal.proofs.Stepped.{ok_map}
 use Rattle.qe_syntax.specs.declared.entries.PointEntry.{PointEntry}
-use Rattle.qe_syntax.specs.Writable.{IsWritableFormula}
 use Rattle.qe_syntax.specs.Trees.{FormulaTree}
 use Rattle.qe_syntax.specs.Value as written
 use Rattle.statement_syntax.specs.declared.grid.GridAxis.{GridAxis}
@@ -37,14 +36,14 @@ use Rattle.point_grid.proofs.Numbering.{points_are_counted}
 use Rattle.session_meaning.specs.declared.line.Line.{Line}
 use Rattle.session_meaning.specs.declared.line.StatementError.{StatementError}
 use Rattle.session_meaning.specs.declared.line.StatementError.TheVariants as error
-use Rattle.session_meaning.specs.State.{State}
+use Rattle.session_meaning.specs.State.{State, known}
 use Rattle.session_meaning.specs.Grids.{lows, MeanNoGrid, IsGridAnswer, grid_text}
 use Rattle.session_meaning.specs.Meaning.{meaning, numbered}
 use Rattle.session_meaning.specs.Reply.{IsLine}
 use Rattle.problem_reading.specs.FromCommandTools.{use_of, Refuses, IsQueryAnswer}
 use Rattle.session_meaning.specs.Places.{by_names}
 use Rattle.session_meaning.specs.Points.{IsQuantified}
-use Rattle.problem_reading.specs.FromSessionState.{SessionState, KeepsState, state_of, IsSessionState}
+use Rattle.problem_reading.specs.FromSessionState.{SessionState, KeepsState, state_of, IsSessionState, IsScripted}
 use Rattle.problem_reading.proofs.FromSharedForms.{err_map}
 use Rattle.problem_reading.proofs.FromEngineAnswers.{whole_where_asked}
 use Rattle.problem_reading.specs.Reading.{HasNumbers, IsReadable}
@@ -84,7 +83,7 @@ module _ (old new : SessionState) (f : FormulaTree) (axes : List GridAxis) (es :
   s = state_of old
 
   abbrev t : Tree
-  t = resolve s.context s.bound s.names f
+  t = resolve s.context (known s) s.names f
 
   same_state : state_of new ≡ s
   same_state = same old new f es state numbers k
@@ -109,19 +108,19 @@ module _ (old new : SessionState) (f : FormulaTree) (axes : List GridAxis) (es :
       valued_here : IsValued s f (lows axes)
       valued_here = subst (λ u. IsValued u f (lows axes)) same_state (subst (IsValued (state_of new) f) are valued)
 
-      pub quantifier_stops : IsQuantified (state_of new).bound f → RefusesGrid s limit f axes error.Quantified
-      quantifier_stops h = grid_quantified s f axes numbers clear meant_here valued_here limit (subst (λ (u : State). IsQuantified u.bound f) same_state h)
+      pub quantifier_stops : IsQuantified (known (state_of new)) f → RefusesGrid s limit f axes error.Quantified
+      quantifier_stops h = grid_quantified s f axes numbers clear meant_here valued_here limit (subst (λ (u : State). IsQuantified (known u) f) same_state h)
 
-      module _ (free : false ≡ has_quantifier (replaced (atom_in_place (state_of new).bound) (λ x. 0) f)) where
-        free_here : ¬ (IsQuantified s.bound f)
-        free_here = subst (λ (u : State). ¬ (IsQuantified u.bound f)) same_state (λ h. false≢true (free ∙ h))
+      module _ (free : false ≡ has_quantifier (replaced (atom_in_place (known (state_of new))) (λ x. 0) f)) where
+        free_here : ¬ (IsQuantified (known s) f)
+        free_here = subst (λ (u : State). ¬ (IsQuantified (known u) f)) same_state (λ h. false≢true (free ∙ h))
 
         pub reading_stops : ((i : FormulaId) → ¬ (id ≡ Some i)) → RefusesGrid s limit f axes error.Overflow
         reading_stops none = grid_unread s f axes numbers clear meant_here valued_here free_here limit (there_not _ _ id none read.formula)
 
         module _ (i : FormulaId) (id_is : id ≡ Some i) where
           formula : IsReadable s f × IsMade (IsId new.store) (tree new.store) i t
-          formula = subst (λ o. MatchOption o (OverflowsInReading s.context s.bound (place s.names) f) (λ j. IsReadable s f × IsMade (IsId new.store) (tree new.store) j t)) id_is read.formula
+          formula = subst (λ o. MatchOption o (OverflowsInReading s.context (known s) (place s.names) f) (λ j. IsReadable s f × IsMade (IsId new.store) (tree new.store) j t)) id_is read.formula
 
           pub grid_refused : (e : StatementError) → NoGrid (place new.names) axes e → RefusesGrid s limit f axes e
           grid_refused e h = grid_stops s f axes numbers clear meant_here valued_here free_here formula.0 limit e (subst (λ ns. NoGrid (place ns) axes e) k.names h)
@@ -130,13 +129,13 @@ module _ (old new : SessionState) (f : FormulaTree) (axes : List GridAxis) (es :
           id_there = formula.1.is
 
           pub free_there : IsQuantifierFree (tree new.store i)
-          free_there = subst (λ (u : Tree). IsQuantifierFree u) (sym formula.1.same) (resolved_free s.context s.bound s.names f free_here)
+          free_there = subst (λ (u : Tree). IsQuantifierFree u) (sym formula.1.same) (resolved_free s.context (known s) s.names f free_here)
 
           module _ (grid : Frame) (made : IsMeantGrid (place new.names) axes grid) where
             made_here : IsMeantGrid (place s.names) axes grid
             made_here = subst (λ ns. IsMeantGrid (place ns) axes grid) k.names made
 
-            module _ (proper : IsWritableFormula f) (proper_axes : AreWritableAxes axes) where
+            module _ (proper : IsScripted f) (proper_axes : AreWritableAxes axes) where
               of_theory : IsDenominator s.context (unsigned_abs grid.denominator)
               of_theory =
                   subst (λ (g : Frame). IsDenominator s.context (unsigned_abs g.denominator)) (sym made_here.same)
@@ -145,10 +144,10 @@ module _ (old new : SessionState) (f : FormulaTree) (axes : List GridAxis) (es :
               pub whole_there : (points : ℕ) → IsFrame grid points → IsWholeWhereAsked (tree new.store i) grid.denominator
               whole_there points frame =
                   subst (λ (u : Tree). IsWholeWhereAsked u grid.denominator) (sym formula.1.same)
-                  (whole_where_asked s.context t grid.denominator (readable_formula f s numbers state.sound proper formula.0).normal frame.positive of_theory)
+                  (whole_where_asked s.context t grid.denominator (readable_formula f s numbers state.sound proper.proper formula.0).normal frame.positive of_theory)
 
               -- the truth that is told at a point is that of the written formula there
-              told_there : (p : Point ℕ) (b : Bool) → Of s.context p → Tells b (tree new.store i) p → IsTrue b ↔ written.TrueAt (bound_truth s.context s.bound s.names) s.context f (by_names s.names p)
+              told_there : (p : Point ℕ) (b : Bool) → Of s.context p → Tells b (tree new.store i) p → IsTrue b ↔ written.TrueAt (bound_truth s.context (known s) s.names) s.context f (by_names s.names p)
               told_there p b of told =
                   let here : IsTrue b ↔ TrueAt s.context t p = told_in s.context b t p (subst (λ (u : Tree). Tells b u p) formula.1.same told) in
                   let same_truth = named_truth s f numbers state.sound proper formula.0 p of in
@@ -182,7 +181,7 @@ module _ (old new : SessionState) (f : FormulaTree) (axes : List GridAxis) (es :
 -- ---- the names of the command
 
 module _ (state : SessionState) (names : List (List ℕ)) (f : FormulaTree) (axes : List GridAxis) (es : List PointEntry) (are : es ≡ lows axes) (h : IsSessionState state) (grown : Grows state.names names)
-    (is : names ≡ fold with_name state.names (formula_variables f ++ entry_names es)) (proper : IsWritableFormula f) (proper_axes : AreWritableAxes axes) where
+    (is : names ≡ fold with_name state.names (formula_variables f ++ entry_names es)) (proper : IsScripted f) (proper_axes : AreWritableAxes axes) where
   pub numbered_lows : names ≡ fold with_name state.names (formula_variables f ++ entry_names (lows axes))
   numbered_lows = subst (λ xs. names ≡ fold with_name state.names (formula_variables f ++ entry_names xs)) are is
 

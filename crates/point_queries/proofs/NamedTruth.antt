@@ -11,13 +11,12 @@ use Rattle.qe_syntax.specs.Trees.{FormulaTree}
 use Rattle.qe_syntax.specs.Value.{same_name}
 use Rattle.qe_syntax.specs.Value as written
 use Rattle.qe_syntax.specs.Valued.{IsIn}
-use Rattle.qe_syntax.specs.Writable.{IsWritableFormula}
 use Rattle.resolved_formulas.specs.Resolving.{at_names, resolve, bound_truth}
 use Rattle.formula_tree.specs.Names.{place}
 use Rattle.resolved_formulas.proofs.PlaceLaws.{slice_place, one_place}
-use Rattle.session_meaning.specs.State.{State}
+use Rattle.session_meaning.specs.State.{State, known}
 use Rattle.session_meaning.specs.Places.{by_names}
-use Rattle.problem_reading.specs.FromSessionState.{IsSound}
+use Rattle.problem_reading.specs.FromSessionState.{IsSound, IsScripted}
 use Rattle.problem_reading.proofs.FromSharedForms.{free_below}
 use Rattle.problem_reading.specs.Reading.{HasNumbers, IsReadable}
 use Rattle.problem_reading.proofs.ReadLemmas.{readable_formula}
@@ -37,11 +36,11 @@ number_stays names q n distinct h =
     ap (λ o. unwrap_or (option_map (λ x. q.at (place names x)) o) (pos 0)) r.1 ∙ ap q.at same
 
 -- A formula whose names are numbered, at a point of the theory: what is written has the truth of what is read.
-pub named_truth : (s : State) (f : FormulaTree) → HasNumbers s.names f → IsSound s → IsWritableFormula f → IsReadable s f → (q : Point ℕ) → Of s.context q
-    → written.TrueAt (bound_truth s.context s.bound s.names) s.context f (by_names s.names q) ↔ TrueAt s.context (resolve s.context s.bound s.names f) q
+pub named_truth : (s : State) (f : FormulaTree) → HasNumbers s.names f → IsSound s → IsScripted f → IsReadable s f → (q : Point ℕ) → Of s.context q
+    → written.TrueAt (bound_truth s.context (known s) s.names) s.context f (by_names s.names q) ↔ TrueAt s.context (resolve s.context (known s) s.names f) q
 named_truth s f numbers sound proper readable q of =
-    let t = resolve s.context s.bound s.names f in
-    let within = (readable_formula f s numbers sound proper readable).within in
+    let t = resolve s.context (known s) s.names f in
+    let within = (readable_formula f s numbers sound proper.proper readable).within in
     let agree : AgreeOn (IsFree t) (at_names s.names (by_names s.names q)) q =
     record { same_below = refl; same_at = λ n free. number_stays s.names q n sound.names_once (free_below (length s.names) n t within.atoms free) } in
     let by_number = tree_agrees s.context t (at_names s.names (by_names s.names q)) q agree in

@@ -29,7 +29,7 @@ use Rattle.qe_syntax.specs.Value.{NamedPoint, same_name}
 use Rattle.resolved_formulas.specs.Resolving.{at_names, resolve}
 use Rattle.session_meaning.specs.declared.line.StatementError.{StatementError}
 use Rattle.session_meaning.specs.declared.line.StatementError.TheVariants as error
-use Rattle.session_meaning.specs.State.{State}
+use Rattle.session_meaning.specs.State.{State, known}
 use Rattle.problem_reading.specs.FromCommandTools.{use_of, measured_refusal}
 use Rattle.problem_reading.specs.Reading.{HasNumbers, IsReadable}
 use Rattle.point_queries.specs.Asked.{AcceptsBoth}
@@ -61,7 +61,7 @@ values_in_limit (v ∷ vs) = ((v.1.numerator_within, v.1.denominator_within), va
 
 module _ (s : State) (f : FormulaTree) (es : List PointEntry) (p : NamedPoint) where
   abbrev t : Tree
-  t = resolve s.context s.bound s.names f
+  t = resolve s.context (known s) s.names f
 
   abbrev q : Point ℕ
   q = at_names s.names p

@@ -22,7 +22,7 @@ use Rattle.sample_reference.specs.Seen.{sample_of}
 use Rattle.sample_reference.specs.Values.{Value}
 use Rattle.qe_syntax.specs.declared.entries.PointEntry.{PointEntry}
 use Rattle.qe_syntax.specs.PointNumbers.{Numbers, point_of}
-use Rattle.qe_syntax.specs.Writable.{IsWritableFormula, AreWritableEntries}
+use Rattle.qe_syntax.specs.Writable.{AreWritableEntries}
 use Rattle.statement_syntax.specs.Statements.{Sample}
 use Rattle.qe_syntax.specs.Trees.{FormulaTree}
 use Rattle.resolved_formulas.specs.Causes.{most_height}
@@ -35,8 +35,8 @@ use Rattle.formula_store.specs.Nodes.{tree}
 use Rattle.redlog_printer.specs.Writing.{text_limit}
 use Rattle.session_meaning.specs.declared.line.Line.{Line}
 use Rattle.session_meaning.specs.declared.line.StatementError.{StatementError}
-use Rattle.problem_reading.specs.FromSessionState.{SessionState, state_of, IsSessionState, KeepsState}
-use Rattle.session_meaning.specs.State.{State}
+use Rattle.problem_reading.specs.FromSessionState.{SessionState, state_of, IsSessionState, KeepsState, IsScripted}
+use Rattle.session_meaning.specs.State.{State, known}
 use Rattle.problem_reading.specs.FromCommandTools.{use_of, Refuses, IsQueryAnswer, measured_refusal}
 use Rattle.problem_reading.specs.Reading.{HasNumbers}
 use Rattle.point_queries.specs.Asked.{entry_names, IsAsked}
@@ -70,7 +70,7 @@ module _ (old new : SessionState) (f : FormulaTree) (es : List PointEntry) (stat
   s = state_of old
 
   abbrev t : Tree
-  t = resolve s.context s.bound s.names f
+  t = resolve s.context (known s) s.names f
 
   -- what is said of the formula of the store, in the theory and at the names there
   here : (P : Context → Tree → List (List ℕ) → Type 0) → P (context_of new.context) (tree new.store i) new.names → P s.context t s.names
@@ -78,9 +78,9 @@ module _ (old new : SessionState) (f : FormulaTree) (es : List PointEntry) (stat
 
   -- the formula is at most 512 high
   low : height t ≤ most_height
-  low = let e = resolving_keeps_height s.context s.bound s.names f in let flat : ¬ (most_height < height t) = (λ h. a.readable.flat (subst (λ n. most_height < n) e h)) in omega arith
+  low = let e = resolving_keeps_height s.context (known s) s.names f in let flat : ¬ (most_height < height t) = (λ h. a.readable.flat (subst (λ n. most_height < n) e h)) in omega arith
 
-  wanted : IsWritableFormula f → (limit : ℕ) (o : Option (Vec (VarId × Fraction) Global)) → IsTrueSample s.context t (at_names s.names (point_of p)) (sample_of o) → IsWantedSample s limit f es (sample_of o)
+  wanted : IsScripted f → (limit : ℕ) (o : Option (Vec (VarId × Fraction) Global)) → IsTrueSample s.context t (at_names s.names (point_of p)) (sample_of o) → IsWantedSample s limit f es (sample_of o)
   wanted proper limit o h = record {
     clear = λ printed. (a.clear limit printed).1;
     answer = record {
@@ -88,12 +88,12 @@ module _ (old new : SessionState) (f : FormulaTree) (es : List PointEntry) (stat
       meant = a.meant;
       sampled = sample_is s f es (point_of p) numbers state.sound.names_once a.readable a.theory (asked_normal old new f es state numbers k i p a) o h;
     };
-    within = sample_within s.context (length s.names) t (at_names s.names (point_of p)) (readable_formula f s numbers state.sound proper a.readable) (sample_of o) h;
+    within = sample_within s.context (length s.names) t (at_names s.names (point_of p)) (readable_formula f s numbers state.sound proper.proper a.readable) (sample_of o) h;
     short = sample_short s.context s.names t (at_names s.names (point_of p)) state.sound.variables low o h;
   }
 
   module _ (r : Result (Option (Vec (VarId × Fraction) Global)) StatementError) (limit : ℕ) where
-    pub sample_told : IsWritableFormula f → IfOk r (λ o. IsTrueSample (context_of new.context) (tree new.store i) (at_names new.names (point_of p)) (sample_of o)) → IfOk r (λ o. IsWantedSample s limit f es (sample_of o))
+    pub sample_told : IsScripted f → IfOk r (λ o. IsTrueSample (context_of new.context) (tree new.store i) (at_names new.names (point_of p)) (sample_of o)) → IfOk r (λ o. IsWantedSample s limit f es (sample_of o))
     sample_told proper h = ok_map r (λ o u. wanted proper limit o (here (λ c v ns. IsTrueSample c v (at_names ns (point_of p)) (sample_of o)) u)) h
 
     pub sample_stopped : IfErr r (SampleStop (context_of new.context) limit (tree new.store i) (at_names new.names (point_of p))) → IfErr r (RefusesSample s limit f es)
@@ -102,7 +102,7 @@ module _ (old new : SessionState) (f : FormulaTree) (es : List PointEntry) (stat
 -- ---- the names of the command
 
 module _ (state : SessionState) (names : List (List ℕ)) (f : FormulaTree) (es : List PointEntry) (h : IsSessionState state) (grown : Grows state.names names)
-    (is : names ≡ fold with_name state.names (formula_variables f ++ entry_names es)) (proper : IsWritableFormula f) (proper_entries : AreWritableEntries es) (limit : ℕ) (printed : Bool) where
+    (is : names ≡ fold with_name state.names (formula_variables f ++ entry_names es)) (proper : IsScripted f) (proper_entries : AreWritableEntries es) (limit : ℕ) (printed : Bool) where
   abbrev first : SessionState
   first = named_session state names f es h grown is proper proper_entries
 

@@ -21,7 +21,7 @@ use Rattle.plain_engine.specs.declared.measured.Measured.TheVariants as measured
 use Rattle.plain_engine.specs.Told.{StopsWith}
 use Rattle.session_meaning.specs.declared.line.StatementError.{StatementError}
 use Rattle.session_meaning.specs.declared.line.StatementError.TheVariants as error
-use Rattle.session_meaning.specs.State.{State}
+use Rattle.session_meaning.specs.State.{State, known}
 use Rattle.problem_reading.specs.FromCommandTools.{use_of, measured_refusal}
 use Rattle.problem_reading.specs.Reading.{HasNumbers, IsReadable}
 use Rattle.point_queries.specs.Asked.{AcceptsBoth}
@@ -43,16 +43,16 @@ module _ (s : State) (f : FormulaTree) (es : List PointEntry) (p : NamedPoint) (
     before_nodes : (printed : Bool) → HasNone (meaning (Holds f es)) s limit (use_of None printed) (before error.Nodes)
     before_nodes printed = none_before (meaning (Holds f es)) s limit (use_of None printed) error.Nodes (error.Nodes ∷ error.Bindings ∷ error.Text ∷ []) refl (clear limit printed).0
 
-    pub truth_passes : ¬ (IsQuantified s.bound f) → (e : StatementError) → ValueStop (resolve s.context s.bound s.names f) (at_names s.names p) e → RefusesTruth s limit f es e
+    pub truth_passes : ¬ (IsQuantified (known s) f) → (e : StatementError) → ValueStop (resolve s.context (known s) s.names f) (at_names s.names p) e → RefusesTruth s limit f es e
     truth_passes free e (inl h) =
         subst (RefusesTruth s limit f es) (sym h.0)
         (λ printed other. record { applies = inr (λ k. k, inl (free, record { point = p; meant = meant; passes = h.1 })); first = before_overflow printed })
     truth_passes free e (inr h) = λ printed other. absurd (other h)
 
-    pub elimination_stops : IsQuantified s.bound f → (e : StatementError) → EliminationStop s.context limit (resolve s.context s.bound s.names f) (at_names s.names p) e → RefusesTruth s limit f es e
+    pub elimination_stops : IsQuantified (known s) f → (e : StatementError) → EliminationStop s.context limit (resolve s.context (known s) s.names f) (at_names s.names p) e → RefusesTruth s limit f es e
     elimination_stops quantified e h = subst (RefusesTruth s limit f es) (sym h.1) (each h.0 h.2)
       where
-        each : (d : Measured) → StopsWith d (reference_at s.context limit (at_names s.names p) (resolve s.context s.bound s.names f)) → RefusesTruth s limit f es (measured_refusal d)
+        each : (d : Measured) → StopsWith d (reference_at s.context limit (at_names s.names p) (resolve s.context (known s) s.names f)) → RefusesTruth s limit f es (measured_refusal d)
         each measured.Overflow k = λ printed other. record { applies = inr (λ x. x, inr (quantified, (p, meant, k))); first = before_overflow printed }
         each measured.Nodes k = λ printed other. record { applies = inr (λ x. x, (quantified, (p, meant, k))); first = before_nodes printed }
         each measured.Memory k = λ printed other. absurd (other refl)
@@ -60,7 +60,7 @@ module _ (s : State) (f : FormulaTree) (es : List PointEntry) (p : NamedPoint) (
   -- ---- the truth
 
   pub is_truth : HasNumbers s.names f → (b : Bool) → IsDistinct same_name s.names → IsReadable s f → Of s.context p
-      → (IsTrue b ↔ TrueAt s.context (resolve s.context s.bound s.names f) (at_names s.names p)) → IsTruth s f es b
+      → (IsTrue b ↔ TrueAt s.context (resolve s.context (known s) s.names f) (at_names s.names p)) → IsTruth s f es b
   is_truth numbers b distinct readable of told =
       let same = truth_as_written s f numbers distinct readable p of in
       record { point = p; meant = meant; truth = (λ h. same.1 (told.0 h), λ h. told.1 (same.0 h)) }

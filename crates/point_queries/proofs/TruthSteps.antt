@@ -8,7 +8,7 @@ use Rattle.atom_normal.specs.Atoms.{context_of}
 use Rattle.atom_normal.proofs.Stepped.{ok_map}
 use Rattle.qe_syntax.specs.declared.entries.PointEntry.{PointEntry}
 use Rattle.qe_syntax.specs.PointNumbers.{Numbers, point_of}
-use Rattle.qe_syntax.specs.Writable.{IsWritableFormula, AreWritableEntries}
+use Rattle.qe_syntax.specs.Writable.{AreWritableEntries}
 use Rattle.statement_syntax.specs.Statements.{Holds}
 use Rattle.qe_syntax.specs.Trees.{FormulaTree}
 use Rattle.formula_tree.specs.Names.{with_name}
@@ -19,8 +19,8 @@ use Rattle.formula_store.specs.Nodes.{tree}
 use Rattle.formula_store.specs.Truths.{Tells, IsWholeWhereAsked}
 use Rattle.session_meaning.specs.declared.line.Line.{Line}
 use Rattle.session_meaning.specs.declared.line.StatementError.{StatementError}
-use Rattle.problem_reading.specs.FromSessionState.{SessionState, state_of, IsSessionState, KeepsState}
-use Rattle.session_meaning.specs.State.{State}
+use Rattle.problem_reading.specs.FromSessionState.{SessionState, state_of, IsSessionState, KeepsState, IsScripted}
+use Rattle.session_meaning.specs.State.{State, known}
 use Rattle.problem_reading.specs.FromCommandTools.{use_of, Refuses, IsQueryAnswer}
 use Rattle.problem_reading.specs.Reading.{HasNumbers}
 use Rattle.point_queries.specs.Asked.{AcceptsBoth, entry_names, IsAsked}
@@ -42,19 +42,19 @@ module _ (old new : SessionState) (f : FormulaTree) (es : List PointEntry) (stat
   s = state_of old
 
   abbrev t : Tree
-  t = resolve s.context s.bound s.names f
+  t = resolve s.context (known s) s.names f
 
   theory_is : context_of new.context ≡ s.context
   theory_is = theory old new f es state numbers k
 
-  quantified_here : IsQuantified (state_of new).bound f → IsQuantified s.bound f
-  quantified_here h = subst (λ (u : State). IsQuantified u.bound f) (same old new f es state numbers k) h
+  quantified_here : IsQuantified (known (state_of new)) f → IsQuantified (known s) f
+  quantified_here h = subst (λ (u : State). IsQuantified (known u) f) (same old new f es state numbers k) h
 
-  free_here : ¬ (IsQuantified (state_of new).bound f) → ¬ (IsQuantified s.bound f)
-  free_here h = subst (λ (u : State). ¬ (IsQuantified u.bound f)) (same old new f es state numbers k) h
+  free_here : ¬ (IsQuantified (known (state_of new)) f) → ¬ (IsQuantified (known s) f)
+  free_here h = subst (λ (u : State). ¬ (IsQuantified (known u) f)) (same old new f es state numbers k) h
 
-  pub free_there : ¬ (IsQuantified (state_of new).bound f) → IsQuantifierFree (tree new.store i)
-  free_there h = subst (λ (u : Tree). IsQuantifierFree u) (sym a.made.same) (resolved_free s.context s.bound s.names f (free_here h))
+  pub free_there : ¬ (IsQuantified (known (state_of new)) f) → IsQuantifierFree (tree new.store i)
+  free_there h = subst (λ (u : Tree). IsQuantifierFree u) (sym a.made.same) (resolved_free s.context (known s) s.names f (free_here h))
 
   pub whole_there : IsWholeWhereAsked (tree new.store i) q.denominator
   whole_there = subst (λ (u : Tree). IsWholeWhereAsked u q.denominator) (sym a.made.same) (whole_where_asked s.context t q.denominator (asked_normal old new f es state numbers k i q a) q.positive a.theory)
@@ -78,10 +78,10 @@ module _ (old new : SessionState) (f : FormulaTree) (es : List PointEntry) (stat
   truth_clear r = on_ok r a.clear
 
   module _ (r : Result Bool StatementError) (limit : ℕ) where
-    pub truth_stops : ¬ (IsQuantified (state_of new).bound f) → IfErr r (ValueStop (tree new.store i) (at_names new.names (point_of q))) → IfErr r (RefusesTruth s limit f es)
+    pub truth_stops : ¬ (IsQuantified (known (state_of new)) f) → IfErr r (ValueStop (tree new.store i) (at_names new.names (point_of q))) → IfErr r (RefusesTruth s limit f es)
     truth_stops free h = err_map r (λ e u. truth_passes s f es (point_of q) a.meant a.clear limit (free_here free) e (here (λ v ns. ValueStop v (at_names ns (point_of q)) e) u)) h
 
-    pub eliminated_stops : IsQuantified (state_of new).bound f → IfErr r (EliminationStop (context_of new.context) limit (tree new.store i) (at_names new.names (point_of q)))
+    pub eliminated_stops : IsQuantified (known (state_of new)) f → IfErr r (EliminationStop (context_of new.context) limit (tree new.store i) (at_names new.names (point_of q)))
         → IfErr r (RefusesTruth s limit f es)
     eliminated_stops quantified h =
         err_map r (λ e u. elimination_stops s f es (point_of q) a.meant a.clear limit (quantified_here quantified) e (here (λ v ns. EliminationStop s.context limit v (at_names ns (point_of q)) e)
@@ -90,7 +90,7 @@ module _ (old new : SessionState) (f : FormulaTree) (es : List PointEntry) (stat
 -- ---- the names of the command
 
 module _ (state : SessionState) (names : List (List ℕ)) (f : FormulaTree) (es : List PointEntry) (h : IsSessionState state) (grown : Grows state.names names)
-    (is : names ≡ fold with_name state.names (formula_variables f ++ entry_names es)) (proper : IsWritableFormula f) (proper_entries : AreWritableEntries es) where
+    (is : names ≡ fold with_name state.names (formula_variables f ++ entry_names es)) (proper : IsScripted f) (proper_entries : AreWritableEntries es) where
   pub truth_refused : {E : Type 0} (r : Result E StatementError) (limit : ℕ) (printed : Bool) → IfErr r (RefusesTruth (state_of (named_session state names f es h grown is proper proper_entries)) limit f es)
       → IfErr r (Refuses (numbered (meaning (Holds f es)) (state_of state)) limit (use_of None printed) (Holds f es))
   truth_refused r limit printed k = err_map r (λ e t. subst (λ s. Refuses s limit (use_of None printed) (Holds f es) e) (start state names f es h grown is proper proper_entries) (t printed)) k

@@ -12,7 +12,6 @@ use Rattle.qe_syntax.specs.PointNumbers.{Numbers, point_of}
 use Rattle.statement_syntax.specs.Statements.{CommandTree, Holds, Sample}
 use Rattle.qe_syntax.specs.Trees.{FormulaTree}
 use Rattle.qe_syntax.specs.Valued.{IsIn}
-use Rattle.formula_tree.specs.Bindings.{bound_to}
 use Rattle.resolved_formulas.specs.Causes.{IsBound, OverflowsInReading}
 use Rattle.formula_tree.specs.Makers.{IsMade}
 use Rattle.resolved_formulas.specs.Resolving.{resolve}
@@ -22,7 +21,7 @@ use Rattle.formula_store.specs.Nodes.{tree, IsId}
 use Rattle.session_meaning.specs.declared.line.StatementError.{StatementError}
 use Rattle.session_meaning.specs.declared.line.StatementError.TheVariants as error
 use Rattle.problem_reading.specs.FromSessionState.{SessionState}
-use Rattle.session_meaning.specs.State.{State}
+use Rattle.session_meaning.specs.State.{State, known}
 use Rattle.session_meaning.specs.Points.{MeanNoPoint, HasUnvalued}
 use Rattle.problem_reading.specs.FromCommandTools.{use_of, Refuses}
 use Rattle.formula_resolving.specs.declared.error.StaticError.TheVariants as static
@@ -65,10 +64,6 @@ stop_of e true = Some error.FormulaAsTerm
 stop_of error.Overflow false = None
 stop_of e false = Some e
 
--- something is bound to the name
-abbrev pub IsBoundName : {Id : Type 0} → List (List ℕ × Id) → List ℕ → Type 0
-IsBoundName {Id} bound x = (id : Id) × (bound_to bound x ≡ Some id)
-
 -- the values of a point of the theory are whole
 abbrev pub is_whole_theory : Context → Bool
 is_whole_theory Fields = false
@@ -77,12 +72,12 @@ is_whole_theory Integers = true
 -- none of the causes that are looked for before the point applies
 pub record IsClear (s : State) (f : FormulaTree) (es : List PointEntry) : Type 0 where
   pub reading : HasNoEarlier s (also f none) static.Overflow
-  pub entries : ¬ (SomeOf (IsBound s.bound) (entry_names es))
+  pub entries : ¬ (SomeOf (IsBound (known s)) (entry_names es))
 
 -- the resolved formula, or none where the reading overflows
 pub record IsReadAs (s : State) (f : FormulaTree) (es : List PointEntry) (after : SessionState) (id : Option FormulaId) : Type 0 where
   pub clear : IsClear s f es
-  pub formula : MatchOption id (OverflowsInReading s.context s.bound (place s.names) f) (λ id. IsReadable s f × IsMade (IsId after.store) (tree after.store) id (resolve s.context s.bound s.names f))
+  pub formula : MatchOption id (OverflowsInReading s.context (known s) (place s.names) f) (λ id. IsReadable s f × IsMade (IsId after.store) (tree after.store) id (resolve s.context (known s) s.names f))
 
 -- the entries mean a point of the theory, which is this one, or none where a number of it passes the limit
 pub record IsMeantPoint (c : Context) (es : List PointEntry) (point : Option Numbers) : Type 0 where
@@ -95,16 +90,16 @@ PointStop c es e = ((e ≡ error.Point) × MeanNoPoint c es) ⊎ (e ≡ error.Me
 
 -- the free names of the formula have entries
 abbrev pub IsValued : State → FormulaTree → List PointEntry → Type 0
-IsValued s f es = ¬ (HasUnvalued s.bound (place s.names) f es)
+IsValued s f es = ¬ (HasUnvalued (known s) (place s.names) f es)
 
 -- why that is not so
 abbrev pub ValuedStop : State → FormulaTree → List PointEntry → StatementError → Type 0
-ValuedStop s f es e = ((e ≡ error.Unvalued) × HasUnvalued s.bound (place s.names) f es) ⊎ (e ≡ error.Memory)
+ValuedStop s f es e = ((e ≡ error.Unvalued) × HasUnvalued (known s) (place s.names) f es) ⊎ (e ≡ error.Memory)
 
 -- The formula is read as this id, and the entries mean this point, which is one of the theory. Nothing is wrong with either, and each free name has an entry.
 pub record IsAsked (s : State) (f : FormulaTree) (es : List PointEntry) (after : SessionState) (id : FormulaId) (point : Numbers) : Type 0 where
   pub readable : IsReadable s f
-  pub made : IsMade (IsId after.store) (tree after.store) id (resolve s.context s.bound s.names f)
+  pub made : IsMade (IsId after.store) (tree after.store) id (resolve s.context (known s) s.names f)
   pub meant : IsPointOf es (point_of point)
   pub theory : Of s.context (point_of point)
   pub clear : AcceptsBoth s f es

@@ -4,6 +4,7 @@ use Rattle.qe_syntax.specs.declared.tree.Formula.{Formula}
 use Rattle.statement_syntax.specs.Statements.{CommandTree, Qea}
 use Rattle.qe_syntax.specs.Trees.{FormulaTree, FormulaTrees, formulas_of}
 use Rattle.qe_syntax.specs.CodeTrees.{formula_tree}
+use Rattle.problem_reading.specs.FromSessionState.{answered_tree}
 use Rattle.session_meaning.specs.declared.line.StatementError.{StatementError}
 use Rattle.session_meaning.specs.declared.line.StatementError.TheVariants as error
 use Rattle.session_meaning.specs.State.{State}
@@ -13,7 +14,7 @@ use Rattle.problem_reading.specs.FromCommandTools.{use_of, Refuses}
 
 -- the command that asks for the cases of a formula under assumptions
 abbrev pub cases_command : Formula → List Formula → CommandTree
-cases_command formula given = Qea (formula_tree formula) (formulas_of (map formula_tree given))
+cases_command formula given = Qea (answered_tree formula) (formulas_of (map formula_tree given))
 
 -- the command is refused; of a list by cases that is too long nothing is said
 abbrev pub CasesRefuse : Way → State → ℕ → Bool → FormulaTree → FormulaTrees → StatementError → Type 0

@@ -5,15 +5,16 @@ ghost use Rattle.std.specs.Prelude.{◌≡◌, ◌≤◌, Bool, None, map, IfOk,
 ghost use Rattle.session_meaning.specs.FromPlainCases.{case_seen, HavePoints};
 ghost use Rattle.resolved_formulas.specs.Resolving.{resolve};
 ghost use Rattle.session_meaning.specs.FromAnswerTexts.{cases_text as text_of_cases, AreCasesWithin};
-ghost use Rattle.qe_syntax.specs.Writable.{IsWritableFormula, AreWritableFormulas};
+ghost use Rattle.qe_syntax.specs.Writable.{AreWritableFormulas};
 ghost use Rattle.qe_syntax.specs.Trees.{formulas_of};
 ghost use Rattle.qe_syntax.specs.CodeTrees.{formula_tree};
 ghost use Rattle.session_meaning.specs.Assumptions.{assumed};
+ghost use Rattle.session_meaning.specs.State.{known};
 ghost use Rattle.problem_reading.specs.FromCommandTools.{use_of, Refuses, IsQueryAnswer, LineFault};
 ghost use Rattle.problem_reading.specs.Reading.{AreNumbered, AreReadable};
 ghost use Rattle.session_meaning.specs.Meaning.{meaning, numbered};
 ghost use Rattle.session_meaning.specs.Reply.{IsLine};
-ghost use Rattle.problem_reading.specs.FromSessionState.{state_of, IsSessionState, KeepsState, GrowsState};
+ghost use Rattle.problem_reading.specs.FromSessionState.{state_of, IsSessionState, KeepsState, GrowsState, HasAnswers, answered_tree};
 ghost use Rattle.problem_reading.specs.FromSharedForms.{AreCasesBy};
 ghost use Rattle.point_queries.specs.CaseLists.{CasesRefuse, cases_command};
 
@@ -35,7 +36,7 @@ pub fn answer_cases<R: Threads + Sync, G: Gate + Sync>(
     printed: bool,
 ) -> Result<Line, StatementError>
     requires workers { 1 ≤ workshop.now.limits.workers }
-    requires proper { IsWritableFormula (formula_tree formula.now) }
+    requires answers { HasAnswers state.old formula.now }
     requires given { AreWritableFormulas (formulas_of (map formula_tree given.now)) }
     requires session { IsSessionState state.old }
     ensures session { OnOk result (IsSessionState state.new) }
@@ -58,10 +59,10 @@ fn answer_numbered<R: Threads + Sync, G: Gate + Sync>(
     printed: bool,
 ) -> Result<Line, StatementError>
     requires workers { 1 ≤ workshop.now.limits.workers }
-    requires proper { IsWritableFormula (formula_tree formula.now) }
+    requires answers { HasAnswers state.old formula.now }
     requires given { AreWritableFormulas (formulas_of (map formula_tree given.now)) }
     requires session { IsSessionState state.old }
-    requires numbered { AreNumbered state.old.names (also (formula_tree formula.now) (formulas_of (map formula_tree given.now))) }
+    requires numbered { AreNumbered state.old.names (also (answered_tree formula.now) (formulas_of (map formula_tree given.now))) }
     ensures answer { IfOk result (IsQueryAnswer (state_of state.old) workshop.now.limits.nodes printed (cases_command formula.now given.now) state.new.names) }
     ensures refused { IfErr result (Refuses (state_of state.old) workshop.now.limits.nodes (use_of None printed) (cases_command formula.now given.now)) }
     ensures kept { KeepsState state.old state.new }
@@ -85,12 +86,12 @@ fn attempt<R: Threads + Sync, G: Gate + Sync>(
     printed: bool,
 ) -> Result<Line, StatementError>
     requires workers { 1 ≤ workshop.now.limits.workers }
-    requires proper { IsWritableFormula (formula_tree formula.now) }
+    requires answers { HasAnswers state.old formula.now }
     requires given { AreWritableFormulas (formulas_of (map formula_tree given.now)) }
     requires session { IsSessionState state.old }
-    requires numbered { AreNumbered state.old.names (also (formula_tree formula.now) (formulas_of (map formula_tree given.now))) }
+    requires numbered { AreNumbered state.old.names (also (answered_tree formula.now) (formulas_of (map formula_tree given.now))) }
     ensures answer { IfOk result (IsQueryAnswer (state_of state.old) workshop.now.limits.nodes printed (cases_command formula.now given.now) state.new.names) }
-    ensures refused { IfErr result (CasesRefuse way (state_of state.old) workshop.now.limits.nodes printed (formula_tree formula.now) (formulas_of (map formula_tree given.now))) }
+    ensures refused { IfErr result (CasesRefuse way (state_of state.old) workshop.now.limits.nodes printed (answered_tree formula.now) (formulas_of (map formula_tree given.now))) }
     ensures kept { KeepsState state.old state.new }
 {
     let cases = cases_of(workshop, state, way, formula, given)?;
@@ -106,13 +107,13 @@ fn cases_of<R: Threads + Sync, G: Gate + Sync>(
     given: &[Formula],
 ) -> Result<Vec<PrintedCase>, StatementError>
     requires workers { 1 ≤ workshop.now.limits.workers }
-    requires proper { IsWritableFormula (formula_tree formula.now) }
+    requires answers { HasAnswers state.old formula.now }
     requires given { AreWritableFormulas (formulas_of (map formula_tree given.now)) }
     requires session { IsSessionState state.old }
-    requires numbered { AreNumbered state.old.names (also (formula_tree formula.now) (formulas_of (map formula_tree given.now))) }
-    ensures cases { IfOk result (λ v. AreCasesBy way (state_of state.old).context (assumed (state_of state.old) (formulas_of (map formula_tree given.now))) workshop.now.limits.nodes (resolve (state_of state.old).context (state_of state.old).bound state.old.names (formula_tree formula.now)) (map case_seen v.items)) }
+    requires numbered { AreNumbered state.old.names (also (answered_tree formula.now) (formulas_of (map formula_tree given.now))) }
+    ensures cases { IfOk result (λ v. AreCasesBy way (state_of state.old).context (assumed (state_of state.old) (formulas_of (map formula_tree given.now))) workshop.now.limits.nodes (resolve (state_of state.old).context (known (state_of state.old)) state.old.names (answered_tree formula.now)) (map case_seen v.items)) }
     ensures points { IfOk result (λ v. HavePoints v.items) }
-    ensures readable { OnOk result (AreReadable (state_of state.old) (also (formula_tree formula.now) (formulas_of (map formula_tree given.now)))) }
+    ensures readable { OnOk result (AreReadable (state_of state.old) (also (answered_tree formula.now) (formulas_of (map formula_tree given.now)))) }
     ensures refused { IfErr result (λ e. (printed : Bool) → Refuses (state_of state.old) workshop.now.limits.nodes (use_of None printed) (cases_command formula.now given.now) e) }
     ensures kept { KeepsState state.old state.new }
 {

@@ -1,17 +1,16 @@
 //! The truths of a formula at the points of a grid.
 
 ghost use Rattle.std.specs.Prelude.{◌≡◌, ◌⊎◌, ◌≤◌, ◌↔◌, pos, None, IfOk, IfErr, OnOk, OnErr, IsTrue, MatchOption, length, map};
-ghost use Rattle.std.specs.List.{AllByRecursion, IsDistinct};
+ghost use Rattle.std.specs.List.{AllByRecursion, IsDistinct, fold};
 ghost use Rattle.formula_meaning.specs.Shape.{IsQuantifierFree};
 ghost use Rattle.formula_meaning.specs.Some.{SomeOf};
 ghost use Rattle.atom_normal.specs.Atoms.{context_of};
 ghost use Rattle.qe_syntax.specs.declared.tree.Literal.TheVariants.{Fits};
-ghost use Rattle.qe_syntax.specs.CodeTrees.{formula_tree};
 ghost use Rattle.qe_syntax.specs.Value.{same_name};
-ghost use Rattle.qe_syntax.specs.Writable.{IsWritableFormula};
 ghost use Rattle.statement_syntax.specs.Statements.{Grid as GridOf};
 ghost use Rattle.statement_syntax.specs.Writable.{IsWritableRatio, IsWritableAxis, AreWritableAxes};
-ghost use Rattle.formula_tree.specs.Names.{place};
+ghost use Rattle.formula_tree.specs.Names.{place, with_name};
+ghost use Rattle.formula_resolving.specs.Numbering.{Grows};
 ghost use Rattle.formula_store.specs.Nodes.{tree, IsId};
 ghost use Rattle.formula_store.specs.Truths.{IsWholeWhereAsked};
 ghost use Rattle.point_grid.specs.Frames.{points_of, most_points};
@@ -19,10 +18,10 @@ ghost use Rattle.point_grid.specs.Truths.{IsTruthList};
 ghost use Rattle.session_meaning.specs.Grids.{lows as lows_of, IsFlat, IsFraction, IsAxis, AreAxes, IsGridAnswer, grid_text, MeanNoGrid};
 ghost use Rattle.session_meaning.specs.Meaning.{meaning, numbered};
 ghost use Rattle.session_meaning.specs.Reply.{IsLine};
-ghost use Rattle.problem_reading.specs.FromSessionState.{state_of, IsSessionState, KeepsState, GrowsState};
+ghost use Rattle.problem_reading.specs.FromSessionState.{state_of, IsSessionState, KeepsState, GrowsState, HasAnswers, answered_tree};
 ghost use Rattle.problem_reading.specs.FromCommandTools.{use_of, Refuses, IsQueryAnswer};
 ghost use Rattle.problem_reading.specs.Reading.{HasNumbers};
-ghost use Rattle.point_queries.specs.Asked.{HaveNumbers};
+ghost use Rattle.point_queries.specs.Asked.{HaveNumbers, entry_names};
 ghost use Rattle.point_queries.specs.GridSteps.{part_entry, IsDivided, IsPastRatio, IsPastAxis, AcceptsGrid, RefusesGrid, AxesStop, IsMeantGrid, NoGrid, TruthsStop};
 
 use crate::points::{check_valued, meant_point, number_command, read};
@@ -30,10 +29,10 @@ use exact_numbers::Fraction;
 use formula_store::FormulaId;
 use formula_tree::Names;
 use point_grid::{Axis, Grid, GridError, grid_truth};
-use problem_reading::{SessionState, Workshop};
+use problem_reading::{SessionState, Workshop, holds_quantifier};
 use qe_parallel::Gate;
 use qe_syntax::{Formula, Literal, PointEntry};
-use session_meaning::{Line, StatementError, is_quantified};
+use session_meaning::{Line, StatementError};
 use statement_syntax::{GridAxis, Ratio};
 use std::alloc::{AllocError, Global};
 use std::thread::Threads;
@@ -55,19 +54,33 @@ pub fn answer_grid<R: Threads + Sync, G: Gate + Sync>(
     printed: bool,
 ) -> Result<Line, StatementError>
     requires workers { 1 ≤ workshop.now.limits.workers }
-    requires proper { IsWritableFormula (formula_tree formula.now) }
+    requires answers { HasAnswers state.old formula.now }
     requires axes { AreWritableAxes axes.now }
     requires session { IsSessionState state.old }
     ensures session { OnOk result (IsSessionState state.new) }
-    ensures answer { IfOk result (IsQueryAnswer (numbered (meaning (GridOf (formula_tree formula.now) axes.now)) (state_of state.old)) workshop.now.limits.nodes printed (GridOf (formula_tree formula.now) axes.now) (state_of state.new).names) }
-    ensures next { OnOk result (state_of state.new ≡ numbered (meaning (GridOf (formula_tree formula.now) axes.now)) (state_of state.old)) }
-    ensures refused { IfErr result (Refuses (numbered (meaning (GridOf (formula_tree formula.now) axes.now)) (state_of state.old)) workshop.now.limits.nodes (use_of None printed) (GridOf (formula_tree formula.now) axes.now)) }
+    ensures answer { IfOk result (IsQueryAnswer (numbered (meaning (GridOf (answered_tree formula.now) axes.now)) (state_of state.old)) workshop.now.limits.nodes printed (GridOf (answered_tree formula.now) axes.now) (state_of state.new).names) }
+    ensures next { OnOk result (state_of state.new ≡ numbered (meaning (GridOf (answered_tree formula.now) axes.now)) (state_of state.old)) }
+    ensures refused { IfErr result (Refuses (numbered (meaning (GridOf (answered_tree formula.now) axes.now)) (state_of state.old)) workshop.now.limits.nodes (use_of None printed) (GridOf (answered_tree formula.now) axes.now)) }
     ensures grown { OnErr result (GrowsState state.old state.new) }
 {
     let lows = entries_of(state.alloc, axes, Part::Low)?;
     number_command(formula, &lows, &state.bindings, &mut state.names)?;
     let truths = truths(workshop, state, formula, axes, &lows)?;
     line_of_truths(state.alloc, &truths, printed)
+}
+
+/// Numbers the names of the axes, in their order. After an `Err` the names may have grown.
+pub fn number_axes(axes: &[GridAxis], names: &mut Names) -> Result<(), StatementError>
+    ensures numbered { OnOk result (names.new ≡ fold with_name names.old (entry_names (lows_of axes.now))) }
+    ensures grown { Grows names.old names.new }
+    ensures memory { IfErr result (λ e. e ≡ StatementError.Memory) }
+{
+    for axis in axes {
+        if let Err(_failed) = names.number(&axis.name) {
+            return Err(StatementError::Memory);
+        }
+    }
+    Ok(())
 }
 
 /// The truths of the formula at the points of the grid, or the first cause of a refusal.
@@ -79,22 +92,22 @@ fn truths<R: Threads + Sync, G: Gate + Sync>(
     lows: &[PointEntry],
 ) -> Result<Vec<bool>, StatementError>
     requires workers { 1 ≤ workshop.now.limits.workers }
-    requires proper { IsWritableFormula (formula_tree formula.now) }
+    requires answers { HasAnswers state.old formula.now }
     requires axes { AreWritableAxes axes.now }
     requires session { IsSessionState state.old }
     requires lows { lows.now ≡ lows_of axes.now }
-    requires numbered { HasNumbers state.old.names (formula_tree formula.now) }
+    requires numbered { HasNumbers state.old.names (answered_tree formula.now) }
     requires valued { HaveNumbers state.old.names lows.now }
-    ensures truths { IfOk result (λ v. IsGridAnswer (state_of state.old) (formula_tree formula.now) axes.now v.items) }
+    ensures truths { IfOk result (λ v. IsGridAnswer (state_of state.old) (answered_tree formula.now) axes.now v.items) }
     ensures few { IfOk result (λ v. length v.items ≤ most_points) }
-    ensures accepted { OnOk result (AcceptsGrid (state_of state.old) (formula_tree formula.now) axes.now) }
-    ensures refused { IfErr result (RefusesGrid (state_of state.old) workshop.now.limits.nodes (formula_tree formula.now) axes.now) }
+    ensures accepted { OnOk result (AcceptsGrid (state_of state.old) (answered_tree formula.now) axes.now) }
+    ensures refused { IfErr result (RefusesGrid (state_of state.old) workshop.now.limits.nodes (answered_tree formula.now) axes.now) }
     ensures kept { KeepsState state.old state.new }
 {
     let id = read(state, formula, lows)?;
     check_axes(state, axes, lows)?;
     check_valued(state, formula, lows)?;
-    if is_quantified(formula, &state.bindings, &state.store) {
+    if holds_quantifier(state, formula) {
         return Err(StatementError::Quantified);
     }
     let Some(id) = id else {

@@ -10,9 +10,8 @@ ghost use Rattle.atom_normal.specs.Atoms.{context_of};
 ghost use Rattle.atom_normal.specs.NormalForm.{IsNormal};
 ghost use Rattle.qe_syntax.specs.Point.{IsPointOf};
 ghost use Rattle.qe_syntax.specs.PointNumbers.{point_of};
-ghost use Rattle.qe_syntax.specs.Writable.{IsWritableFormula, AreWritableEntries};
+ghost use Rattle.qe_syntax.specs.Writable.{AreWritableEntries};
 ghost use Rattle.statement_syntax.specs.Statements.{Holds};
-ghost use Rattle.qe_syntax.specs.CodeTrees.{formula_tree};
 ghost use Rattle.qe_syntax.specs.Value.{same_name};
 ghost use Rattle.resolved_formulas.specs.Resolving.{at_names};
 ghost use Rattle.formula_store.specs.Nodes.{tree, IsId};
@@ -21,16 +20,18 @@ ghost use Rattle.problem_reading.specs.FromCommandTools.{use_of, Refuses, IsQuer
 ghost use Rattle.problem_reading.specs.Reading.{HasNumbers};
 ghost use Rattle.point_queries.specs.Asked.{HaveNumbers, AcceptsBoth};
 ghost use Rattle.session_meaning.specs.Meaning.{meaning, numbered};
-ghost use Rattle.problem_reading.specs.FromSessionState.{state_of, IsSessionState, KeepsState, GrowsState};
+ghost use Rattle.problem_reading.specs.FromSessionState.{state_of, IsSessionState, KeepsState, GrowsState, HasAnswers, answered_tree};
 ghost use Rattle.session_meaning.specs.Points.{IsTruth};
 ghost use Rattle.point_queries.specs.Truths.{RefusesTruth, ValueStop, EliminationStop};
 
 use crate::points::{asked, number_command, values_of};
 use formula_store::{EvalStop, FormulaId};
-use problem_reading::{SessionState, Workshop, measured_refusal, printed_line, text_of_truth};
+use problem_reading::{
+    SessionState, Workshop, holds_quantifier, measured_refusal, printed_line, text_of_truth,
+};
 use qe_parallel::Gate;
 use qe_syntax::{Formula, Point, PointEntry};
-use session_meaning::{Line, StatementError, is_quantified};
+use session_meaning::{Line, StatementError};
 use std::thread::Threads;
 
 /// Answers whether the formula is true at the point. After an `Err` the names may have grown.
@@ -42,13 +43,13 @@ pub fn answer_holds<R: Threads + Sync, G: Gate + Sync>(
     printed: bool,
 ) -> Result<Line, StatementError>
     requires workers { 1 ≤ workshop.now.limits.workers }
-    requires proper { IsWritableFormula (formula_tree formula.now) }
+    requires answers { HasAnswers state.old formula.now }
     requires entries { AreWritableEntries entries.now }
     requires session { IsSessionState state.old }
     ensures session { OnOk result (IsSessionState state.new) }
-    ensures answer { IfOk result (IsQueryAnswer (numbered (meaning (Holds (formula_tree formula.now) entries.now)) (state_of state.old)) workshop.now.limits.nodes printed (Holds (formula_tree formula.now) entries.now) (state_of state.new).names) }
-    ensures next { OnOk result (state_of state.new ≡ numbered (meaning (Holds (formula_tree formula.now) entries.now)) (state_of state.old)) }
-    ensures refused { IfErr result (Refuses (numbered (meaning (Holds (formula_tree formula.now) entries.now)) (state_of state.old)) workshop.now.limits.nodes (use_of None printed) (Holds (formula_tree formula.now) entries.now)) }
+    ensures answer { IfOk result (IsQueryAnswer (numbered (meaning (Holds (answered_tree formula.now) entries.now)) (state_of state.old)) workshop.now.limits.nodes printed (Holds (answered_tree formula.now) entries.now) (state_of state.new).names) }
+    ensures next { OnOk result (state_of state.new ≡ numbered (meaning (Holds (answered_tree formula.now) entries.now)) (state_of state.old)) }
+    ensures refused { IfErr result (Refuses (numbered (meaning (Holds (answered_tree formula.now) entries.now)) (state_of state.old)) workshop.now.limits.nodes (use_of None printed) (Holds (answered_tree formula.now) entries.now)) }
     ensures grown { OnErr result (GrowsState state.old state.new) }
 {
     number_command(formula, entries, &state.bindings, &mut state.names)?;
@@ -64,18 +65,18 @@ fn truth<R: Threads + Sync, G: Gate + Sync>(
     entries: &[PointEntry],
 ) -> Result<bool, StatementError>
     requires workers { 1 ≤ workshop.now.limits.workers }
-    requires proper { IsWritableFormula (formula_tree formula.now) }
+    requires answers { HasAnswers state.old formula.now }
     requires entries { AreWritableEntries entries.now }
     requires session { IsSessionState state.old }
-    requires numbered { HasNumbers state.old.names (formula_tree formula.now) }
+    requires numbered { HasNumbers state.old.names (answered_tree formula.now) }
     requires valued { HaveNumbers state.old.names entries.now }
-    ensures truth { IfOk result (IsTruth (state_of state.old) (formula_tree formula.now) entries.now) }
-    ensures accepted { OnOk result (AcceptsBoth (state_of state.old) (formula_tree formula.now) entries.now) }
-    ensures refused { IfErr result (RefusesTruth (state_of state.old) workshop.now.limits.nodes (formula_tree formula.now) entries.now) }
+    ensures truth { IfOk result (IsTruth (state_of state.old) (answered_tree formula.now) entries.now) }
+    ensures accepted { OnOk result (AcceptsBoth (state_of state.old) (answered_tree formula.now) entries.now) }
+    ensures refused { IfErr result (RefusesTruth (state_of state.old) workshop.now.limits.nodes (answered_tree formula.now) entries.now) }
     ensures kept { KeepsState state.old state.new }
 {
     let (id, point) = asked(state, formula, entries)?;
-    if is_quantified(formula, &state.bindings, &state.store) {
+    if holds_quantifier(state, formula) {
         eliminated_truth(workshop, state, id, entries, &point)
     } else {
         truth_at(state, id, entries, &point)

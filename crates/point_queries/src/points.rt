@@ -5,23 +5,21 @@ ghost use Rattle.std.specs.List.{IsDistinct, fold};
 ghost use Rattle.formula_meaning.specs.Some.{SomeOf};
 ghost use Rattle.atom_normal.specs.Atoms.{context_of};
 ghost use Rattle.linear_forms.specs.Values.{number_at};
-ghost use Rattle.qe_syntax.specs.declared.entries.PointEntry.{PointEntry as Entry};
 ghost use Rattle.qe_syntax.specs.Point.{IsPointOf};
 ghost use Rattle.qe_syntax.specs.PointNumbers.{point_of};
-ghost use Rattle.qe_syntax.specs.Writable.{IsWritableFormula, AreWritableEntries};
-ghost use Rattle.qe_syntax.specs.CodeTrees.{formula_tree};
+ghost use Rattle.qe_syntax.specs.Writable.{AreWritableEntries};
 ghost use Rattle.qe_syntax.specs.Value.{same_name};
 ghost use Rattle.formula_tree.specs.Names.{with_name};
 ghost use Rattle.resolved_formulas.specs.Resolving.{formula_variables, at_names};
+ghost use Rattle.resolved_formulas.specs.Causes.{IsBound};
 ghost use Rattle.formula_resolving.specs.Numbering.{Grows};
-ghost use Rattle.formula_resolving.specs.BoundIds.{AreIds};
-ghost use Rattle.formula_store.specs.Nodes.{IsId};
+ghost use Rattle.session_meaning.specs.State.{known};
 ghost use Rattle.problem_reading.specs.Reading.{HasNumbers};
-ghost use Rattle.point_queries.specs.Asked.{HaveNumbers, RefusesAsking, RefusesBoth, entry_names, stop_of, IsBoundName, is_whole_theory, IsReadAs, IsMeantPoint, PointStop, IsValued, ValuedStop, IsAsked};
-ghost use Rattle.problem_reading.specs.FromSessionState.{state_of, IsSessionState, KeepsState};
+ghost use Rattle.point_queries.specs.Asked.{HaveNumbers, RefusesAsking, RefusesBoth, entry_names, stop_of, is_whole_theory, IsReadAs, IsMeantPoint, PointStop, IsValued, ValuedStop, IsAsked};
+ghost use Rattle.problem_reading.specs.FromSessionState.{state_of, IsSessionState, KeepsState, HasIds, HasAnswers, answered_tree};
 
 use atom_normal::Context;
-use formula_resolving::number_formula;
+use formula_resolving::{bound_formula, number_formula};
 use formula_store::FormulaId;
 use formula_tree::{Bindings, Names};
 use linear_forms::Values;
@@ -37,13 +35,22 @@ pub fn number_command(
     bindings: &Bindings<FormulaId>,
     names: &mut Names,
 ) -> Result<(), StatementError>
-    ensures numbered { OnOk result (names.new ≡ fold with_name names.old (formula_variables (formula_tree formula.now) ++ entry_names entries.now)) }
+    ensures numbered { OnOk result (names.new ≡ fold with_name names.old (formula_variables (answered_tree formula.now) ++ entry_names entries.now)) }
     ensures grown { Grows names.old names.new }
     ensures memory { IfErr result (λ e. e ≡ StatementError.Memory) }
 {
     if let Err(_failed) = number_formula(formula, bindings, names) {
         return Err(StatementError::Memory);
     }
+    number_entries(entries, names)
+}
+
+/// Numbers the names of the entries, in their order. After an `Err` the names may have grown.
+pub fn number_entries(entries: &[PointEntry], names: &mut Names) -> Result<(), StatementError>
+    ensures numbered { OnOk result (names.new ≡ fold with_name names.old (entry_names entries.now)) }
+    ensures grown { Grows names.old names.new }
+    ensures memory { IfErr result (λ e. e ≡ StatementError.Memory) }
+{
     for entry in entries {
         if let Err(_failed) = names.number(&entry.name) {
             return Err(StatementError::Memory);
@@ -58,12 +65,12 @@ pub fn asked(
     formula: &Formula,
     entries: &[PointEntry],
 ) -> Result<(FormulaId, Point), StatementError>
-    requires proper { IsWritableFormula (formula_tree formula.now) }
+    requires answers { HasAnswers state.old formula.now }
     requires entries { AreWritableEntries entries.now }
     requires session { IsSessionState state.old }
-    requires numbered { HasNumbers state.old.names (formula_tree formula.now) }
-    ensures asked { IfOk result (λ a. IsAsked (state_of state.old) (formula_tree formula.now) entries.now state.new a.0 a.1) }
-    ensures refused { IfErr result (RefusesBoth (state_of state.old) (formula_tree formula.now) entries.now) }
+    requires numbered { HasNumbers state.old.names (answered_tree formula.now) }
+    ensures asked { IfOk result (λ a. IsAsked (state_of state.old) (answered_tree formula.now) entries.now state.new a.0 a.1) }
+    ensures refused { IfErr result (RefusesBoth (state_of state.old) (answered_tree formula.now) entries.now) }
     ensures kept { KeepsState state.old state.new }
 {
     let id = read(state, formula, entries)?;
@@ -84,14 +91,14 @@ pub fn read(
     formula: &Formula,
     entries: &[PointEntry],
 ) -> Result<Option<FormulaId>, StatementError>
-    requires proper { IsWritableFormula (formula_tree formula.now) }
-    requires ids { AreIds (IsId state.old.store) state.old.bindings }
-    requires numbered { HasNumbers state.old.names (formula_tree formula.now) }
-    ensures read { IfOk result (IsReadAs (state_of state.old) (formula_tree formula.now) entries.now state.new) }
-    ensures refused { IfErr result (RefusesAsking (state_of state.old) (formula_tree formula.now) entries.now) }
+    requires answers { HasAnswers state.old formula.now }
+    requires ids { HasIds state.old }
+    requires numbered { HasNumbers state.old.names (answered_tree formula.now) }
+    ensures read { IfOk result (IsReadAs (state_of state.old) (answered_tree formula.now) entries.now state.new) }
+    ensures refused { IfErr result (RefusesAsking (state_of state.old) (answered_tree formula.now) entries.now) }
     ensures kept { KeepsState state.old state.new }
 {
-    let met = some_bound(entries, &state.bindings);
+    let met = some_bound(state, entries);
     match resolved(state, formula) {
         Ok(id) => {
             if met {
@@ -119,11 +126,11 @@ fn stop(error: StatementError, met: bool) -> Option<StatementError>
 }
 
 /// Whether something is bound to the name of an entry.
-fn some_bound(entries: &[PointEntry], bindings: &Bindings<FormulaId>) -> bool
-    ensures { IsTrue result ↔ SomeOf (λ (e : Entry). IsBoundName bindings.now e.name) entries.now }
+fn some_bound(state: &SessionState, entries: &[PointEntry]) -> bool
+    ensures { IsTrue result ↔ SomeOf (IsBound (known (state_of state.now))) (entry_names entries.now) }
 {
     for entry in entries {
-        if bindings.get(&entry.name).is_some() {
+        if bound_formula(&entry.name, &state.bindings).is_some() {
             return true;
         }
     }
@@ -165,16 +172,17 @@ pub fn check_valued(
     formula: &Formula,
     entries: &[PointEntry],
 ) -> Result<(), StatementError>
-    requires proper { IsWritableFormula (formula_tree formula.now) }
-    requires ids { AreIds (IsId state.now.store) state.now.bindings }
-    ensures valued { OnOk result (IsValued (state_of state.now) (formula_tree formula.now) entries.now) }
-    ensures fault { IfErr result (ValuedStop (state_of state.now) (formula_tree formula.now) entries.now) }
+    requires answers { HasAnswers state.now formula.now }
+    requires ids { HasIds state.now }
+    ensures valued { OnOk result (IsValued (state_of state.now) (answered_tree formula.now) entries.now) }
+    ensures fault { IfErr result (ValuedStop (state_of state.now) (answered_tree formula.now) entries.now) }
 {
     match is_valued(
         state.alloc,
         formula,
         entries,
         &state.bindings,
+        &state.answers,
         &state.names,
         &state.store,
     ) {

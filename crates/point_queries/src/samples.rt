@@ -8,9 +8,8 @@ ghost use Rattle.atom_normal.specs.Atoms.{context_of};
 ghost use Rattle.atom_normal.specs.NormalForm.{IsNormal};
 ghost use Rattle.qe_syntax.specs.Point.{IsPointOf};
 ghost use Rattle.qe_syntax.specs.PointNumbers.{point_of};
-ghost use Rattle.qe_syntax.specs.Writable.{IsWritableFormula, AreWritableEntries};
+ghost use Rattle.qe_syntax.specs.Writable.{AreWritableEntries};
 ghost use Rattle.statement_syntax.specs.Statements.{Sample};
-ghost use Rattle.qe_syntax.specs.CodeTrees.{formula_tree};
 ghost use Rattle.qe_syntax.specs.Value.{same_name};
 ghost use Rattle.resolved_formulas.specs.Resolving.{at_names};
 ghost use Rattle.formula_store.specs.Nodes.{tree, IsId};
@@ -22,7 +21,7 @@ ghost use Rattle.problem_reading.specs.Reading.{HasNumbers};
 ghost use Rattle.point_queries.specs.Asked.{HaveNumbers};
 ghost use Rattle.session_meaning.specs.Meaning.{meaning, numbered};
 ghost use Rattle.session_meaning.specs.Reply.{IsLine};
-ghost use Rattle.problem_reading.specs.FromSessionState.{state_of, IsSessionState, KeepsState, GrowsState};
+ghost use Rattle.problem_reading.specs.FromSessionState.{state_of, IsSessionState, KeepsState, GrowsState, HasAnswers, answered_tree};
 ghost use Rattle.session_meaning.specs.Samples.{sample_text};
 ghost use Rattle.point_queries.specs.SampleSteps.{RefusesSample, SampleStop, IsSampleWithin, IsWantedSample};
 
@@ -46,13 +45,13 @@ pub fn answer_sample<R: Threads + Sync, G: Gate + Sync>(
     printed: bool,
 ) -> Result<Line, StatementError>
     requires workers { 1 ≤ workshop.now.limits.workers }
-    requires proper { IsWritableFormula (formula_tree formula.now) }
+    requires answers { HasAnswers state.old formula.now }
     requires entries { AreWritableEntries entries.now }
     requires session { IsSessionState state.old }
     ensures session { OnOk result (IsSessionState state.new) }
-    ensures answer { IfOk result (IsQueryAnswer (numbered (meaning (Sample (formula_tree formula.now) entries.now)) (state_of state.old)) workshop.now.limits.nodes printed (Sample (formula_tree formula.now) entries.now) (state_of state.new).names) }
-    ensures next { OnOk result (state_of state.new ≡ numbered (meaning (Sample (formula_tree formula.now) entries.now)) (state_of state.old)) }
-    ensures refused { IfErr result (Refuses (numbered (meaning (Sample (formula_tree formula.now) entries.now)) (state_of state.old)) workshop.now.limits.nodes (use_of None printed) (Sample (formula_tree formula.now) entries.now)) }
+    ensures answer { IfOk result (IsQueryAnswer (numbered (meaning (Sample (answered_tree formula.now) entries.now)) (state_of state.old)) workshop.now.limits.nodes printed (Sample (answered_tree formula.now) entries.now) (state_of state.new).names) }
+    ensures next { OnOk result (state_of state.new ≡ numbered (meaning (Sample (answered_tree formula.now) entries.now)) (state_of state.old)) }
+    ensures refused { IfErr result (Refuses (numbered (meaning (Sample (answered_tree formula.now) entries.now)) (state_of state.old)) workshop.now.limits.nodes (use_of None printed) (Sample (answered_tree formula.now) entries.now)) }
     ensures grown { OnErr result (GrowsState state.old state.new) }
 {
     number_command(formula, entries, &state.bindings, &mut state.names)?;
@@ -68,13 +67,13 @@ fn sample<R: Threads + Sync, G: Gate + Sync>(
     entries: &[PointEntry],
 ) -> Result<Option<Vec<(VarId, Fraction)>>, StatementError>
     requires workers { 1 ≤ workshop.now.limits.workers }
-    requires proper { IsWritableFormula (formula_tree formula.now) }
+    requires answers { HasAnswers state.old formula.now }
     requires entries { AreWritableEntries entries.now }
     requires session { IsSessionState state.old }
-    requires numbered { HasNumbers state.old.names (formula_tree formula.now) }
+    requires numbered { HasNumbers state.old.names (answered_tree formula.now) }
     requires valued { HaveNumbers state.old.names entries.now }
-    ensures sample { IfOk result (λ o. IsWantedSample (state_of state.old) workshop.now.limits.nodes (formula_tree formula.now) entries.now (sample_of o)) }
-    ensures refused { IfErr result (RefusesSample (state_of state.old) workshop.now.limits.nodes (formula_tree formula.now) entries.now) }
+    ensures sample { IfOk result (λ o. IsWantedSample (state_of state.old) workshop.now.limits.nodes (answered_tree formula.now) entries.now (sample_of o)) }
+    ensures refused { IfErr result (RefusesSample (state_of state.old) workshop.now.limits.nodes (answered_tree formula.now) entries.now) }
     ensures kept { KeepsState state.old state.new }
 {
     let (id, point) = asked(state, formula, entries)?;

@@ -17,7 +17,7 @@ use Rattle.formula_resolving.specs.declared.error.StaticError.{StaticError}
 use Rattle.formula_resolving.specs.declared.error.StaticError.TheVariants as static
 use Rattle.formula_resolving.specs.Refusals as reading
 use Rattle.formula_resolving.specs.FirstCause.{IsFirstCause}
-use Rattle.command_tools.specs.FromSessionMeaning.{StatementError, State, atoms_alone, atoms_among, resolved_all, assumed, AllTrueAt, Hold}
+use Rattle.command_tools.specs.FromSessionMeaning.{StatementError, State, atoms_alone, atoms_among, resolved_all, assumed, AllTrueAt, Hold, known}
 use Rattle.command_tools.specs.FromSessionMeaning.statement_error_variants as error
 use Rattle.command_tools.specs.Refusals.{static_refusal}
 use Rattle.problem_reading.specs.Reading.{IsReadable, AreNumbered, AreReadable, AppliesAmong, HasNoEarlier, IsFirstCauseAmong, AreUnread, FirstAmong, IsEarlierOfBoth, AppliesToSome, IsFirstWith}
@@ -71,8 +71,8 @@ module _ (s : State) (distinct : IsDistinct same_name s.names) (p : NamedPoint) 
   all_say : (gs : FormulaTrees) → AreReadable s gs → AreNumbered s.names gs → AllTrueAt s gs p → EachOf SaysThere (atoms_among (resolved_all s gs))
   all_say none readable numbers h = tt
   all_say (also g gs) readable numbers h =
-      each_both SaysThere (atoms_alone (resolve s.context s.bound s.names g)) (atoms_among (resolved_all s gs))
-      (alone_says s (resolve s.context s.bound s.names g) (at_names s.names p) ((truth_as_written s g numbers.0 distinct readable.0 p of).0 h.0)) (all_say gs readable.1 numbers.1 h.1)
+      each_both SaysThere (atoms_alone (resolve s.context (known s) s.names g)) (atoms_among (resolved_all s gs))
+      (alone_says s (resolve s.context (known s) s.names g) (at_names s.names p) ((truth_as_written s g numbers.0 distinct readable.0 p of).0 h.0)) (all_say gs readable.1 numbers.1 h.1)
 
   -- and those of formulas that are true
   each_say : (ts : List Tree) → EachOf (λ t. TrueAt s.context t (at_names s.names p)) ts → EachOf SaysThere (atoms_among ts)
@@ -116,7 +116,7 @@ first_same P Q same None h = none_less Q P (λ d. (same d).1) reading.order h
 first_same P Q same (Some e) h = (h.0, (same e).0 h.1, none_less Q P (λ d. (same d).1) (reading.before e) h.2)
 
 -- a formula that is not resolved
-pub first_unread : (s : State) (g : FormulaTree) (e : StaticError) → ¬ (e ≡ static.Memory) → IsFirstCause s.context s.bound s.names g e → FirstAmong (λ d. reading.Applies s.context s.bound s.names g d) (Some e)
+pub first_unread : (s : State) (g : FormulaTree) (e : StaticError) → ¬ (e ≡ static.Memory) → IsFirstCause s.context (known s) s.names g e → FirstAmong (λ d. reading.Applies s.context (known s) s.names g d) (Some e)
 first_unread s g static.Unbound n h = (n, h.applies, h.first)
 first_unread s g static.FormulaAsTerm n h = (n, h.applies, h.first)
 first_unread s g static.Nonlinear n h = (n, h.applies, h.first)
@@ -128,7 +128,7 @@ first_unread s g static.Overflow n h = (n, h.applies, h.first)
 first_unread s g static.Memory n h = absurd (n refl)
 
 -- a formula to which no cause applies is resolved
-pub readable_where_none : (s : State) (g : FormulaTree) → FirstAmong (λ d. reading.Applies s.context s.bound s.names g d) None → IsReadable s g
+pub readable_where_none : (s : State) (g : FormulaTree) → FirstAmong (λ d. reading.Applies s.context (known s) s.names g d) None → IsReadable s g
 readable_where_none s g h = record {
   bound_names = h.0;
   variables = h.1.0;
@@ -150,9 +150,9 @@ some_last F (y ∷ ys) x =
 
 pub first_of_more : (s : State) (gs : List Formula) (g : Formula) (stop after : Option StaticError) → FirstAmong (AppliesToSome s gs) stop → IsFirstWith s (formula_tree g) stop after → FirstAmong (AppliesToSome s (gs ++ g ∷ [])) after
 first_of_more s gs g stop after h k =
-    first_same (λ d. AppliesToSome s gs d ⊎ reading.Applies s.context s.bound s.names (formula_tree g) d) (AppliesToSome s (gs ++ g ∷ []))
-    (λ d. let r = some_last (λ e. reading.Applies s.context s.bound s.names (formula_tree e) d) gs g in (r.1, r.0)) after
-    (first_of_both (AppliesToSome s gs) (λ d. reading.Applies s.context s.bound s.names (formula_tree g) d) stop k.cause after h k.first k.joined)
+    first_same (λ d. AppliesToSome s gs d ⊎ reading.Applies s.context (known s) s.names (formula_tree g) d) (AppliesToSome s (gs ++ g ∷ []))
+    (λ d. let r = some_last (λ e. reading.Applies s.context (known s) s.names (formula_tree e) d) gs g in (r.1, r.0)) after
+    (first_of_both (AppliesToSome s gs) (λ d. reading.Applies s.context (known s) s.names (formula_tree g) d) stop k.cause after h k.first k.joined)
 
 -- where there is no first cause there was none before
 pub none_before : (s : State) (g : FormulaTree) (stop after : Option StaticError) → IsFirstWith s g stop after → after ≡ None → stop ≡ None
@@ -179,7 +179,7 @@ memory_unread s fs e p = (static.Memory, p, λ other. absurd (other refl))
 each_listed_none : (s : State) (ds : List Formula) → FirstAmong (AppliesToSome s ds) None → AllByRecursion (λ g. IsReadable s (formula_tree g)) ds
 each_listed_none s [] k = tt
 each_listed_none s (d ∷ ds) k =
-    let applies = (λ (e : StaticError). reading.Applies s.context s.bound s.names (formula_tree d) e) in
+    let applies = (λ (e : StaticError). reading.Applies s.context (known s) s.names (formula_tree d) e) in
     (readable_where_none s (formula_tree d) (none_less applies (AppliesToSome s (d ∷ ds)) (λ e. inl) reading.order k), each_listed_none s ds (none_less (AppliesToSome s ds) (AppliesToSome s (d ∷ ds)) (λ e. inr) reading.order k))
 
 -- ---- the formula and its assumptions together
@@ -189,13 +189,13 @@ module _ (s : State) (f : FormulaTree) (gs : List Formula) where
   given = formulas_of (map formula_tree gs)
 
   abbrev Here : StaticError → Type 0
-  Here d = reading.Applies s.context s.bound s.names f d
+  Here d = reading.Applies s.context (known s) s.names f d
 
   -- the first cause in the formula, joined to that in its assumptions, is the first in any of them
   first_in_parts : (stop after : Option StaticError) → FirstAmong (AppliesToSome s gs) stop → IsFirstWith s f stop after → FirstAmong (AppliesAmong s (also f given)) after
   first_in_parts stop after h k =
       first_same (λ d. AppliesToSome s gs d ⊎ Here d) (AppliesAmong s (also f given))
-      (λ d. let r = some_listed (λ g. reading.Applies s.context s.bound s.names g d) f gs in (λ x. r.1 (⊎_elim inr inl x), λ x. ⊎_elim inr inl (r.0 x))) after
+      (λ d. let r = some_listed (λ g. reading.Applies s.context (known s) s.names g d) f gs in (λ x. r.1 (⊎_elim inr inl x), λ x. ⊎_elim inr inl (r.0 x))) after
       (first_of_both (AppliesToSome s gs) Here stop k.cause after h k.first k.joined)
 
   pub parts_unread : (stop : Option StaticError) (e : StaticError) → FirstAmong (AppliesToSome s gs) stop → IsFirstWith s f stop (Some e) → IsFirstCauseAmong s (also f given) e
@@ -204,8 +204,8 @@ module _ (s : State) (f : FormulaTree) (gs : List Formula) where
   pub parts_readable : (stop : Option StaticError) → FirstAmong (AppliesToSome s gs) stop → IsFirstWith s f stop None → AreReadable s (also f given)
   parts_readable stop h k =
       let there = first_in_parts stop None h k in
-      each_of_list (IsReadable s) f gs (readable_where_none s f (none_less Here (AppliesAmong s (also f given)) (λ d x. (some_listed (λ g. reading.Applies s.context s.bound s.names g d) f gs).1 (inl x)) reading.order there))
-      (each_listed_none s gs (none_less (AppliesToSome s gs) (AppliesAmong s (also f given)) (λ d x. (some_listed (λ g. reading.Applies s.context s.bound s.names g d) f gs).1 (inr x)) reading.order there))
+      each_of_list (IsReadable s) f gs (readable_where_none s f (none_less Here (AppliesAmong s (also f given)) (λ d x. (some_listed (λ g. reading.Applies s.context (known s) s.names g d) f gs).1 (inl x)) reading.order there))
+      (each_listed_none s gs (none_less (AppliesToSome s gs) (AppliesAmong s (also f given)) (λ d x. (some_listed (λ g. reading.Applies s.context (known s) s.names g d) f gs).1 (inr x)) reading.order there))
 
 -- ---- formulas alone
 
@@ -214,7 +214,7 @@ all_readable s gs k = each_of_given (IsReadable s) gs (each_listed_none s gs k)
 
 pub all_unread : (s : State) (gs : List Formula) (e : StaticError) → FirstAmong (AppliesToSome s gs) (Some e) → IsFirstCauseAmong s (formulas_of (map formula_tree gs)) e
 all_unread s gs e h =
-    let there = first_same (AppliesToSome s gs) (AppliesAmong s (formulas_of (map formula_tree gs))) (λ d. let r = some_given (λ g. reading.Applies s.context s.bound s.names g d) gs in (r.1, r.0)) (Some e) h in
+    let there = first_same (AppliesToSome s gs) (AppliesAmong s (formulas_of (map formula_tree gs))) (λ d. let r = some_given (λ g. reading.Applies s.context (known s) s.names g d) gs in (r.1, r.0)) (Some e) h in
     λ other. record { applies = there.1; first = there.2 }
 
 -- ---- a quantifier where none may be

@@ -8,7 +8,7 @@ use Rattle.resolved_formulas.specs.Causes.{IsBound, IsNonlinear, Divides, IsBadM
 use Rattle.formula_resolving.specs.declared.error.StaticError.{StaticError}
 use Rattle.formula_resolving.specs.declared.error.StaticError.TheVariants as static
 use Rattle.formula_resolving.specs.Refusals as reading
-use Rattle.command_tools.specs.FromSessionMeaning.{StatementError, Meaning, Use, SomeFormula, IsCause, HasNone, IsAccepted, IsFirst, before, order, State}
+use Rattle.command_tools.specs.FromSessionMeaning.{StatementError, Meaning, Use, SomeFormula, IsCause, HasNone, IsAccepted, IsFirst, before, order, State, known}
 use Rattle.command_tools.specs.FromSessionMeaning.statement_error_variants as error
 use Rattle.command_tools.specs.Refusals.{static_refusal}
 use Rattle.problem_reading.specs.Reading.{HasNumbers, IsReadable, AreNumbered, AreReadable, AppliesAmong, IsBefore, HasNoEarlier, IsFirstAmong, AreUnread}
@@ -101,14 +101,14 @@ module _ (m : Meaning) (s : State) (limit : ℕ) (u : Use) where
     cause_of_reading static.CongruenceContext h other = h
     cause_of_reading static.Modulus h other = here_after (λ ns. IsBadModulus s.context (place ns)) h
     cause_of_reading static.Depth h other = h
-    cause_of_reading static.Overflow h other = inl (here_after (λ ns. OverflowsInReading s.context s.bound (place ns)) h)
+    cause_of_reading static.Overflow h other = inl (here_after (λ ns. OverflowsInReading s.context (known s) (place ns)) h)
     cause_of_reading static.Memory h other = absurd (other refl)
 
-    pub overflow_here : SomeFormula (OverflowsInReading s.context s.bound (place s.names)) m.formulas → AppliesAmong s m.formulas static.Overflow
-    overflow_here h = after_here (λ ns. OverflowsInReading s.context s.bound (place ns)) h
+    pub overflow_here : SomeFormula (OverflowsInReading s.context (known s) (place s.names)) m.formulas → AppliesAmong s m.formulas static.Overflow
+    overflow_here h = after_here (λ ns. OverflowsInReading s.context (known s) (place ns)) h
 
     abbrev Further : Type 0
-    Further = SomeOf (IsBound s.bound) m.further
+    Further = SomeOf (IsBound (known s)) m.further
 
     to_term : HasNoEarlier s m.formulas static.FormulaAsTerm → HasNone m s limit u (before error.FormulaAsTerm)
     to_term first = then_clear error.Unbound error.FormulaAsTerm refl to_unbound first.0
@@ -161,7 +161,7 @@ module _ (m : Meaning) (s : State) (limit : ℕ) (u : Use) where
     bound_first first h = record { applies = inl (inr h); first = to_term first }
 
 -- no cause applies to a formula that is resolved
-readable_part : (s : State) (g : FormulaTree) → IsReadable s g → (d : StaticError) → d ≢ static.Memory → ¬ (reading.Applies s.context s.bound s.names g d)
+readable_part : (s : State) (g : FormulaTree) → IsReadable s g → (d : StaticError) → d ≢ static.Memory → ¬ (reading.Applies s.context (known s) s.names g d)
 readable_part s g h static.Unbound n k = h.bound_names k
 readable_part s g h static.FormulaAsTerm n k = h.variables k
 readable_part s g h static.Nonlinear n k = h.linear k
@@ -172,13 +172,13 @@ readable_part s g h static.Depth n k = h.flat k
 readable_part s g h static.Overflow n k = h.within k
 readable_part s g h static.Memory n k = n refl
 
-pub readable_none : (s : State) (g : FormulaTree) → IsReadable s g → EachOf (λ d. ¬ (reading.Applies s.context s.bound s.names g d)) reading.order
-readable_none s g h = each_cause (λ d. ¬ (reading.Applies s.context s.bound s.names g d)) (readable_part s g h)
+pub readable_none : (s : State) (g : FormulaTree) → IsReadable s g → EachOf (λ d. ¬ (reading.Applies s.context (known s) s.names g d)) reading.order
+readable_none s g h = each_cause (λ d. ¬ (reading.Applies s.context (known s) s.names g d)) (readable_part s g h)
 
 -- nor to several
 pub readable_applies : (s : State) (fs : FormulaTrees) → AreReadable s fs → EachOf (λ d. ¬ (AppliesAmong s fs d)) reading.order
 readable_applies s fs h =
-    each_cause (λ d. ¬ (AppliesAmong s fs d)) (λ d n. no_formula (IsReadable s) (λ g. reading.Applies s.context s.bound s.names g d) (λ g k. readable_part s g k d n) fs h)
+    each_cause (λ d. ¬ (AppliesAmong s fs d)) (λ d n. no_formula (IsReadable s) (λ g. reading.Applies s.context (known s) s.names g d) (λ g k. readable_part s g k d n) fs h)
 
 -- ---- commands without a point
 
@@ -191,8 +191,8 @@ pub record HasNoPoint (m : Meaning) (s : State) (limit : ℕ) : Type 0 where
   pub nodes : ¬ (m.must.nodes s limit)
 
 module _ (m : Meaning) (s : State) (limit : ℕ) (u : Use) (numbers : AreNumbered s.names m.formulas) (plain : HasNoPoint m s limit) where
-  no_further : ¬ (SomeOf (IsBound s.bound) m.further)
-  no_further h = let k = subst (SomeOf (IsBound s.bound)) plain.further h in absurd k
+  no_further : ¬ (SomeOf (IsBound (known s)) m.further)
+  no_further h = let k = subst (SomeOf (IsBound (known s))) plain.further h in absurd k
 
   to_quantified : HasNoEarlier s m.formulas static.Overflow → HasNone m s limit u (before error.Quantified)
   to_quantified first =

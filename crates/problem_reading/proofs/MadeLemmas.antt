@@ -13,13 +13,12 @@ use Rattle.qe_syntax.specs.declared.tree.Formula.{Formula}
 use Rattle.qe_syntax.specs.Trees.{formulas_of}
 use Rattle.qe_syntax.specs.CodeTrees.{formula_tree}
 use Rattle.qe_syntax.proofs.EntryLists.{each_push}
-use Rattle.command_tools.specs.FromSessionMeaning.{State, atoms_alone, atoms_among, resolved_all, StatementError}
-use Rattle.command_tools.specs.FromSessionState.{SessionState, KeepsState, state_of}
+use Rattle.command_tools.specs.FromSessionMeaning.{State, atoms_alone, atoms_among, resolved_all, StatementError, known}
+use Rattle.command_tools.specs.FromSessionState.{SessionState, KeepsState, state_of, HasIds}
 use Rattle.formula_meaning.specs.Formula.{also}
 use Rattle.std.specs.Prelude.{Option, None, Result, Ok, Err, Some, IfOk, IfErr}
 use Rattle.std.proofs.Common.{inl, inr}
 use Rattle.qe_syntax.specs.Trees.{FormulaTree}
-use Rattle.formula_resolving.specs.BoundIds.{AreIds}
 use Rattle.formula_resolving.specs.declared.error.StaticError.{StaticError}
 use Rattle.command_tools.specs.FromSessionMeaning.statement_error_variants as error
 use Rattle.command_tools.proofs.FromSessionState.{same_state}
@@ -58,9 +57,9 @@ module _ (old new : SessionState) (k : KeepsState old new) where
         same = map_push before m.id ∙ (λ i. there.same i ++ m.made.same i ∷ []);
       })
 
-pub resolved_more : (s : State) (gs : List Formula) (g : Formula) → resolved_all s (formulas_of (map formula_tree (gs ++ g ∷ []))) ≡ resolved_all s (formulas_of (map formula_tree gs)) ++ resolve s.context s.bound s.names (formula_tree g) ∷ []
+pub resolved_more : (s : State) (gs : List Formula) (g : Formula) → resolved_all s (formulas_of (map formula_tree (gs ++ g ∷ []))) ≡ resolved_all s (formulas_of (map formula_tree gs)) ++ resolve s.context (known s) s.names (formula_tree g) ∷ []
 resolved_more s [] g = refl
-resolved_more s (d ∷ gs) g = ap (λ (ts : List Tree). resolve s.context s.bound s.names (formula_tree d) ∷ ts) (resolved_more s gs g)
+resolved_more s (d ∷ gs) g = ap (λ (ts : List Tree). resolve s.context (known s) s.names (formula_tree d) ∷ ts) (resolved_more s gs g)
 
 -- ---- atoms among formulas
 
@@ -85,11 +84,11 @@ same_at (id ∷ ids) (suc i) d e h = same_at ids i d e (omega (arith, h))
 -- ---- the formula and its assumptions
 
 pub under_read : (s : State) (f : FormulaTree) (stop : Option StaticError) (ids : List FormulaId) (new : SessionState) (id : FormulaId) (r : Result Premised StatementError)
-    → IsMade (IsId new.store) (tree new.store) id (resolve s.context s.bound s.names f) → IsReadable s f → stop ≡ None → IfOk r (λ p. p.formula ≡ id)
+    → IsMade (IsId new.store) (tree new.store) id (resolve s.context (known s) s.names f) → IsReadable s f → stop ≡ None → IfOk r (λ p. p.formula ≡ id)
     → IfOk r (λ p. map atom_of p.atoms.items ≡ atoms_among (standing_trees new.standing ++ map (tree new.store) ids)) → IfOk r (λ p. AllByRecursion IsWellFormed p.atoms.items) → IfOk r (IsReadUnder s f stop ids new)
 under_read s f stop ids new id (Err e) made readable none same_id atoms well = tt
 under_read s f stop ids new id (Ok p) made readable none same_id atoms well = record {
-  made = subst (λ i. IsMade (IsId new.store) (tree new.store) i (resolve s.context s.bound s.names f)) (sym same_id) made;
+  made = subst (λ i. IsMade (IsId new.store) (tree new.store) i (resolve s.context (known s) s.names f)) (sym same_id) made;
   atoms = atoms;
   well_formed = well;
   first = record { cause = None; first = readable_none s f readable; joined = sym none };
@@ -99,7 +98,7 @@ pub under_unread : (s : State) (f : FormulaTree) (stop : Option StaticError) (r 
 under_unread s f stop (Ok p) h = tt
 under_unread s f stop (Err e) h = inl h
 
-module _ (old middle : SessionState) (ids_there : AreIds (IsId old.store) old.bindings) (k : KeepsState old middle) where
+module _ (old middle : SessionState) (ids_there : HasIds old) (k : KeepsState old middle) where
   same : state_of middle ≡ state_of old
   same = same_state old middle ids_there k
 

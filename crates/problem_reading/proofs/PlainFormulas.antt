@@ -1,5 +1,5 @@
--- A formula whose names can be written has no place for an answer, and names of answers change nothing in it.
-use Rattle.std.proofs.Common.{◌≡◌, ℕ, List, sym, ap, ◌∙◌, subst}
+-- Answers of the commands inside a formula; one whose names can be written has no place for an answer, and names of answers change nothing in it.
+use Rattle.std.proofs.Common.{◌≡◌, ℕ, ◌≤◌, List, length, sym, ap, ◌∙◌, subst, arith}
 use Rattle.std.specs.Prelude.{Result, Ok, Err, OnOk, OnErr}
 use Rattle.qe_syntax.specs.declared.tree.Formula.{Formula}
 use Rattle.qe_syntax.specs.Holes.{command_count}
@@ -8,25 +8,29 @@ use Rattle.qe_syntax.specs.Writable.{IsWritableFormula}
 use Rattle.qe_syntax.specs.CodeTrees.{formula_tree, inner_of, named_tree}
 use Rattle.qe_syntax.proofs.Alone.{still, no_hole}
 use Rattle.resolved_formulas.specs.NamesAfter.{names_after}
+use Rattle.resolved_formulas.specs.Resolving.{formula_variables}
+use Rattle.formula_resolving.proofs.HoleNames.{variables_named}
+use Rattle.command_tools.specs.FromSessionState.{SessionState, KeepsState, IsScripted, HasAnswers, answered_tree}
+use Rattle.command_tools.proofs.FromSessionState.{scripted}
 
-pub no_places : (f : Formula) → IsWritableFormula (formula_tree f) → 0 ≡ command_count (inner_of f)
-no_places f w = sym (ap command_count (no_hole f w))
+no_places : (f : Formula) → IsWritableFormula (formula_tree f) → (n : ℕ) → command_count (inner_of f) ≤ n
+no_places f w n = let e = ap command_count (no_hole f w) in omega arith
 
 pub same_named : (f : Formula) → IsWritableFormula (formula_tree f) → named_tree 0 f ≡ formula_tree f
 same_named f w = still f (no_hole f w) 0
+
+-- such a formula asks for no answer
+pub plain_answers : (d : SessionState) (f : Formula) → IsWritableFormula (formula_tree f) → HasAnswers d f
+plain_answers d f w = record { scripted = subst IsScripted (sym (same_named f w)) (scripted (formula_tree f) w); places = no_places f w (length d.answers.items) }
+
+-- the answers are still there
+pub answers_stay : (old new : SessionState) → KeepsState old new → (f : Formula) → HasAnswers old f → HasAnswers new f
+answers_stay old new k f h = record { scripted = h.scripted; places = subst (λ ids. command_count (inner_of f) ≤ length ids) (sym k.answers) h.places }
 
 on_both : {A E : Type 0} (P : Type 0) (r : Result A E) → OnOk r P → OnErr r P → P
 on_both P (Ok a) h k = h
 on_both P (Err e) h k = k
 
--- where its names have their numbers
-module _ (f : Formula) (w : IsWritableFormula (formula_tree f)) (names : List (List ℕ)) (numbered : names_after names (formula_tree f) ≡ names) where
-  names_stay : names_after names (named_tree 0 f) ≡ names
-  names_stay = ap (names_after names) (same_named f w) ∙ numbered
-
-  -- what is read without answers is read of its tree under the same names
-  pub read_plainly : (P : List (List ℕ) → FormulaTree → Type 0) → P (names_after names (named_tree 0 f)) (named_tree 0 f) → P names (formula_tree f)
-  read_plainly P h = subst (P names) (same_named f w) (subst (λ ns. P ns (named_tree 0 f)) names_stay h)
-
-  pub names_kept : {A E : Type 0} (r : Result A E) (new : List (List ℕ)) → OnOk r (new ≡ names_after names (named_tree 0 f)) → OnErr r (new ≡ names) → new ≡ names
-  names_kept r new h k = on_both (new ≡ names) r (subst (λ ns. OnOk r (new ≡ ns)) names_stay h) k
+-- names that have all variables of the formula stay
+pub names_kept : (f : FormulaTree) (names : List (List ℕ)) → names_after names f ≡ names → {A E : Type 0} (r : Result A E) (new : List (List ℕ)) → OnOk r (new ≡ names_after names f) → OnErr r (new ≡ names) → new ≡ names
+names_kept f names numbered r new h k = on_both (new ≡ names) r (subst (λ ns. OnOk r (new ≡ ns)) numbered h) k

@@ -5,13 +5,15 @@ use Rattle.formula_meaning.specs.Tree.{Tree}
 use Rattle.atom_normal.specs.declared.atoms.Context as atoms
 use Rattle.qe_syntax.specs.Trees.{FormulaTree}
 use Rattle.resolved_formulas.specs.Resolving.{resolve}
-use Rattle.command_tools.specs.FromSessionMeaning.{State, atoms_alone, atoms_among, resolved_all, assumed}
+use Rattle.command_tools.specs.FromSessionMeaning.{State, atoms_alone, atoms_among, resolved_all, assumed, known}
 use Rattle.problem_reading.specs.Reading.{HasNumbers, IsReadable}
 use Rattle.std.proofs.Common.{◌++◌, length}
 use Rattle.std.specs.List.{fold}
 use Rattle.formula_meaning.specs.Formula.{none, also}
 use Rattle.qe_syntax.specs.Trees.{FormulaTrees}
+use Rattle.qe_syntax.specs.Proper.{IsProperFormula}
 use Rattle.qe_syntax.specs.Writable.{IsWritableFormula, AreWritableFormulas}
+use Rattle.qe_syntax.proofs.WritableLemmas.{writable_formula}
 use Rattle.qe_syntax.specs.Valued.{IsIn}
 use Rattle.resolved_formulas.proofs.PlaceLaws.{after_has, in_either}
 use Rattle.atom_normal.specs.NormalForm.{IsNormal}
@@ -20,7 +22,7 @@ use Rattle.resolved_formulas.specs.Resolving.{formula_variables, all_variables}
 use Rattle.problem_reading.specs.Reading.{AreNumbered, AreReadable}
 use Rattle.formula_tree.specs.Names.{with_name}
 use Rattle.command_tools.specs.FromSessionState.{IsSessionFormula, IsSound}
-use Rattle.command_tools.proofs.FromSessionState.{kept_names, resolved_formula}
+use Rattle.command_tools.proofs.FromSessionState.{kept_names, known_formulas, resolved_formula}
 use Rattle.problem_reading.proofs.AssumptionLemmas.{each_both, alone_has, among_both}
 use Rattle.std.proofs.Common.{map}
 use Rattle.std.specs.List.{AllByRecursion}
@@ -39,15 +41,15 @@ pub numbers_of : (f : FormulaTree) (gs : FormulaTrees) (names : List (List ℕ))
 numbers_of f gs names = numbered_in (also f gs) (fold with_name names (formula_variables f ++ all_variables gs)) (λ x i. after_has (formula_variables f ++ all_variables gs) names x (inr i))
 
 -- the resolved formula is one of the session
-pub readable_formula : (f : FormulaTree) (s : State) → HasNumbers s.names f → IsSound s → IsWritableFormula f → IsReadable s f → IsSessionFormula s.context (length s.names) (resolve s.context s.bound s.names f)
-readable_formula f s numbers sound proper h = resolved_formula s.context s.bound s.names f sound.formulas numbers proper h
+pub readable_formula : (f : FormulaTree) (s : State) → HasNumbers s.names f → IsSound s → IsProperFormula f → IsReadable s f → IsSessionFormula s.context (length s.names) (resolve s.context (known s) s.names f)
+readable_formula f s numbers sound proper h = resolved_formula s.context (known s) s.names f (known_formulas s sound) numbers proper h
 
 -- the assumptions are normal atoms
 each_normal : (s : State) → IsSound s → (gs : FormulaTrees) → AreNumbered s.names gs → AreReadable s gs → AreWritableFormulas gs → EachOf (IsNormal s.context) (atoms_among (resolved_all s gs))
 each_normal s sound none numbers readable proper = tt
 each_normal s sound (also g gs) numbers readable proper =
-    each_both (IsNormal s.context) (atoms_alone (resolve s.context s.bound s.names g)) (atoms_among (resolved_all s gs))
-    (alone_has (IsNormal s.context) (resolve s.context s.bound s.names g) (readable_formula g s numbers.0 sound proper.0 readable.0).normal)
+    each_both (IsNormal s.context) (atoms_alone (resolve s.context (known s) s.names g)) (atoms_among (resolved_all s gs))
+    (alone_has (IsNormal s.context) (resolve s.context (known s) s.names g) (readable_formula g s numbers.0 sound (writable_formula g proper.0) readable.0).normal)
     (each_normal s sound gs numbers.1 readable.1 proper.1)
 
 -- and so are the standing ones
@@ -63,7 +65,7 @@ assumed_normal s sound f gs numbers readable proper =
 -- the formulas are ones of the session
 pub resolved_formulas : (s : State) → IsSound s → (gs : FormulaTrees) → AreNumbered s.names gs → AreReadable s gs → AreWritableFormulas gs → EachOf (IsSessionFormula s.context (length s.names)) (resolved_all s gs)
 resolved_formulas s sound none numbers readable proper = tt
-resolved_formulas s sound (also g gs) numbers readable proper = (readable_formula g s numbers.0 sound proper.0 readable.0, resolved_formulas s sound gs numbers.1 readable.1 proper.1)
+resolved_formulas s sound (also g gs) numbers readable proper = (readable_formula g s numbers.0 sound (writable_formula g proper.0) readable.0, resolved_formulas s sound gs numbers.1 readable.1 proper.1)
 
 pub proper_items : (gs : List Formula) → AreWritableFormulas (formulas_of (map formula_tree gs)) → AllByRecursion (λ g. IsWritableFormula (formula_tree g)) gs
 proper_items [] h = tt

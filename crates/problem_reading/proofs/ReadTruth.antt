@@ -8,12 +8,12 @@ use Rattle.qe_syntax.specs.Value.{NamedPoint, same_name}
 use Rattle.qe_syntax.specs.Value as written
 use Rattle.resolved_formulas.specs.Resolving.{at_names, resolve, bound_truth}
 use Rattle.resolved_formulas.proofs.ResolvedTruth.{resolving_keeps_truth}
-use Rattle.command_tools.specs.FromSessionMeaning.{State}
+use Rattle.command_tools.specs.FromSessionMeaning.{State, known}
 use Rattle.problem_reading.specs.Reading.{HasNumbers, IsReadable}
 
 -- the resolved formula has the truth of the written one
 pub truth_as_written : (s : State) (f : FormulaTree) → HasNumbers s.names f → IsDistinct same_name s.names → IsReadable s f → (p : NamedPoint) → Of s.context p
-    → written.TrueAt (bound_truth s.context s.bound s.names) s.context f p ↔ TrueAt s.context (resolve s.context s.bound s.names f) (at_names s.names p)
+    → written.TrueAt (bound_truth s.context (known s) s.names) s.context f p ↔ TrueAt s.context (resolve s.context (known s) s.names f) (at_names s.names p)
 truth_as_written s f numbers distinct readable p of =
-    subst (λ ns. written.TrueAt (bound_truth s.context s.bound ns) s.context f p ↔ TrueAt s.context (resolve s.context s.bound ns f) (at_names ns p)) numbers
-    (resolving_keeps_truth s.context s.bound s.names f distinct readable p of)
+    subst (λ ns. written.TrueAt (bound_truth s.context (known s) ns) s.context f p ↔ TrueAt s.context (resolve s.context (known s) ns f) (at_names ns p)) numbers
+    (resolving_keeps_truth s.context (known s) s.names f distinct readable p of)

@@ -20,7 +20,7 @@ use Rattle.formula_resolving.specs.declared.error.StaticError.{StaticError}
 use Rattle.formula_resolving.specs.declared.error.StaticError.TheVariants as static
 use Rattle.formula_resolving.specs.Refusals.{Applies, order, before}
 use Rattle.formula_resolving.specs.FirstCause.{IsFirstCause}
-use Rattle.command_tools.specs.FromSessionMeaning.{StatementError, State, assumed, atoms_among, resolved_all, SomeFormula}
+use Rattle.command_tools.specs.FromSessionMeaning.{StatementError, State, assumed, atoms_among, resolved_all, SomeFormula, known}
 use Rattle.command_tools.specs.FromSessionMeaning.statement_error_variants as error
 use Rattle.command_tools.specs.FromStandingAssumptions.{standing_trees}
 use Rattle.problem_reading.specs.Parts.{EachFormula}
@@ -32,11 +32,11 @@ HasNumbers names f = names_after names f ≡ names
 
 -- the first cause why a formula is not resolved is this word's
 abbrev pub IsUnread : State → FormulaTree → StatementError → Type 0
-IsUnread s f e = (d : StaticError) × (e ≡ static_refusal d) × IsFirstCause s.context s.bound s.names f d
+IsUnread s f e = (d : StaticError) × (e ≡ static_refusal d) × IsFirstCause s.context (known s) s.names f d
 
 -- the formula is resolved in the state
 abbrev pub IsReadable : State → FormulaTree → Type 0
-IsReadable s f = IsResolvable s.context s.bound s.names f
+IsReadable s f = IsResolvable s.context (known s) s.names f
 
 abbrev pub AreNumbered : List (List ℕ) → FormulaTrees → Type 0
 AreNumbered names fs = EachFormula (HasNumbers names) fs
@@ -46,7 +46,7 @@ AreReadable s fs = EachFormula (IsReadable s) fs
 
 -- the cause applies to some of them
 abbrev pub AppliesAmong : State → FormulaTrees → StaticError → Type 0
-AppliesAmong s fs d = SomeFormula (λ g. Applies s.context s.bound s.names g d) fs
+AppliesAmong s fs d = SomeFormula (λ g. Applies s.context (known s) s.names g d) fs
 
 -- the cause is looked for before the other
 abbrev pub IsBefore : StaticError → StaticError → Type 0
@@ -71,7 +71,7 @@ AreUnread s fs e = (d : StaticError) × (e ≡ static_refusal d) × IsFirstCause
 
 -- The formula and its assumptions are read: this is the id of the formula, these are the atoms of what is assumed, and no cause in reading applies.
 pub record AreRead (s : State) (f : FormulaTree) (given : FormulaTrees) (after : SessionState) (read : Premised) : Type 0 where
-  pub made : IsMade (IsId after.store) (tree after.store) read.formula (resolve s.context s.bound s.names f)
+  pub made : IsMade (IsId after.store) (tree after.store) read.formula (resolve s.context (known s) s.names f)
   pub atoms : map atom_of read.atoms.items ≡ assumed s given
   pub well_formed : AllByRecursion IsWellFormed read.atoms.items
   pub readable : AreReadable s (also f given)
@@ -104,17 +104,17 @@ IsEarlierOfBoth stop (Some e) after = IsSomeAnd after (IsEarlierOf e stop)
 
 -- the cause applies to some formula of the list
 abbrev pub AppliesToSome : State → List Formula → StaticError → Type 0
-AppliesToSome s gs d = SomeOf (λ g. Applies s.context s.bound s.names (formula_tree g) d) gs
+AppliesToSome s gs d = SomeOf (λ g. Applies s.context (known s) s.names (formula_tree g) d) gs
 
 -- the first cause in the formula, or None where it is resolved, joined to an earlier one
 pub record IsFirstWith (s : State) (g : FormulaTree) (stop after : Option StaticError) : Type 0 where
   pub cause : Option StaticError
-  pub first : FirstAmong (λ d. Applies s.context s.bound s.names g d) cause
+  pub first : FirstAmong (λ d. Applies s.context (known s) s.names g d) cause
   pub joined : IsEarlierOfBoth stop cause after
 
 -- The formula is read, and no cause applies to it or came before: this is its id, and these are the atoms among the standing assumptions and the formulas of these ids.
 pub record IsReadUnder (s : State) (f : FormulaTree) (stop : Option StaticError) (ids : List FormulaId) (after : SessionState) (read : Premised) : Type 0 where
-  pub made : IsMade (IsId after.store) (tree after.store) read.formula (resolve s.context s.bound s.names f)
+  pub made : IsMade (IsId after.store) (tree after.store) read.formula (resolve s.context (known s) s.names f)
   pub atoms : map atom_of read.atoms.items ≡ atoms_among (standing_trees after.standing ++ map (tree after.store) ids)
   pub well_formed : AllByRecursion IsWellFormed read.atoms.items
   pub first : IsFirstWith s f stop None

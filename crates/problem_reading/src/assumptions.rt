@@ -8,17 +8,16 @@ ghost use Rattle.formula_tree.specs.Makers.{AreMade};
 ghost use Rattle.formula_tree.specs.Names.{with_name};
 ghost use Rattle.resolved_formulas.specs.Resolving.{resolve, formula_variables, all_variables};
 ghost use Rattle.formula_resolving.specs.Numbering.{Grows};
-ghost use Rattle.formula_resolving.specs.BoundIds.{AreIds};
 ghost use Rattle.formula_store.specs.Nodes.{tree, IsId};
 ghost use Rattle.qe_syntax.specs.Writable.{IsWritableFormula};
 ghost use Rattle.qe_syntax.specs.Trees.{formulas_of};
 ghost use Rattle.qe_syntax.specs.CodeTrees.{formula_tree};
-ghost use Rattle.command_tools.specs.FromSessionMeaning.{atoms_alone, atoms_among, resolved_all};
+ghost use Rattle.command_tools.specs.FromSessionMeaning.{atoms_alone, atoms_among, resolved_all, known};
 ghost use Rattle.command_tools.specs.FromStandingAssumptions.{standing_trees};
-ghost use Rattle.command_tools.specs.FromSessionState.{state_of, KeepsState};
+ghost use Rattle.command_tools.specs.FromSessionState.{state_of, KeepsState, HasIds, HasAnswers, answered_tree};
 ghost use Rattle.problem_reading.specs.Reading.{HasNumbers, AreNumbered, AreUnread, AreRead, AreAllRead, IsOneMore, IsReadUnder, IsUnreadUnder, FirstAmong, IsEarlierOf, AppliesToSome, IsFirstWith};
 
-use crate::reading::resolved_part;
+use crate::reading::{resolved_part, resolved_plain};
 use atom_normal::Atom;
 use command_tools::{Premised, SessionState, StatementError, static_refusal};
 use formula_resolving::{StaticError, number_formula};
@@ -35,7 +34,7 @@ pub fn number_parts(
     bindings: &Bindings<FormulaId>,
     names: &mut Names,
 ) -> Result<(), StatementError>
-    ensures numbered { OnOk result (names.new ≡ fold with_name names.old (formula_variables (formula_tree formula.now) ++ all_variables (formulas_of (map formula_tree given.now)))) }
+    ensures numbered { OnOk result (names.new ≡ fold with_name names.old (formula_variables (answered_tree formula.now) ++ all_variables (formulas_of (map formula_tree given.now)))) }
     ensures grown { Grows names.old names.new }
     ensures memory { IfErr result (λ e. e ≡ StatementError.Memory) }
 {
@@ -81,12 +80,12 @@ pub fn read_parts(
     formula: &Formula,
     given: &[Formula],
 ) -> Result<Premised, StatementError>
-    requires proper { IsWritableFormula (formula_tree formula.now) }
+    requires answers { HasAnswers state.old formula.now }
     requires proper_given { AllByRecursion (λ g. IsWritableFormula (formula_tree g)) given.now }
-    requires ids { AreIds (IsId state.old.store) state.old.bindings }
-    requires numbered { AreNumbered state.old.names (also (formula_tree formula.now) (formulas_of (map formula_tree given.now))) }
-    ensures read { IfOk result (AreRead (state_of state.old) (formula_tree formula.now) (formulas_of (map formula_tree given.now)) state.new) }
-    ensures unread { IfErr result (AreUnread (state_of state.old) (also (formula_tree formula.now) (formulas_of (map formula_tree given.now)))) }
+    requires ids { HasIds state.old }
+    requires numbered { AreNumbered state.old.names (also (answered_tree formula.now) (formulas_of (map formula_tree given.now))) }
+    ensures read { IfOk result (AreRead (state_of state.old) (answered_tree formula.now) (formulas_of (map formula_tree given.now)) state.new) }
+    ensures unread { IfErr result (AreUnread (state_of state.old) (also (answered_tree formula.now) (formulas_of (map formula_tree given.now)))) }
     ensures kept { KeepsState state.old state.new }
 {
     let mut ids = Vec::new(state.alloc);
@@ -101,12 +100,12 @@ fn read_under(
     stop: Option<StaticError>,
     ids: &[FormulaId],
 ) -> Result<Premised, StatementError>
-    requires proper { IsWritableFormula (formula_tree formula.now) }
-    requires ids { AreIds (IsId state.old.store) state.old.bindings }
-    requires numbered { HasNumbers state.old.names (formula_tree formula.now) }
+    requires answers { HasAnswers state.old formula.now }
+    requires ids { HasIds state.old }
+    requires numbered { HasNumbers state.old.names (answered_tree formula.now) }
     requires given { stop ≡ None → AllByRecursion (IsId state.old.store) ids.now }
-    ensures read { IfOk result (IsReadUnder (state_of state.old) (formula_tree formula.now) stop ids.now state.new) }
-    ensures unread { IfErr result (IsUnreadUnder (state_of state.old) (formula_tree formula.now) stop) }
+    ensures read { IfOk result (IsReadUnder (state_of state.old) (answered_tree formula.now) stop ids.now state.new) }
+    ensures unread { IfErr result (IsUnreadUnder (state_of state.old) (answered_tree formula.now) stop) }
     ensures kept { KeepsState state.old state.new }
 {
     match resolved_part(state, formula) {
@@ -127,7 +126,7 @@ pub fn read_all(
     given: &[Formula],
 ) -> Result<Vec<FormulaId>, StatementError>
     requires proper { AllByRecursion (λ g. IsWritableFormula (formula_tree g)) given.now }
-    requires ids { AreIds (IsId state.old.store) state.old.bindings }
+    requires ids { HasIds state.old }
     requires numbered { AreNumbered state.old.names (formulas_of (map formula_tree given.now)) }
     ensures read { IfOk result (λ ids. AreAllRead (state_of state.old) (formulas_of (map formula_tree given.now)) state.new ids.items) }
     ensures unread { IfErr result (AreUnread (state_of state.old) (formulas_of (map formula_tree given.now))) }
@@ -147,7 +146,7 @@ fn read_given(
     ids: &mut Vec<FormulaId>,
 ) -> Result<Option<StaticError>, StatementError>
     requires proper { AllByRecursion (λ g. IsWritableFormula (formula_tree g)) given.now }
-    requires ids { AreIds (IsId state.old.store) state.old.bindings }
+    requires ids { HasIds state.old }
     requires numbered { AllByRecursion (λ g. HasNumbers state.old.names (formula_tree g)) given.now }
     requires empty { ids.old.items ≡ [] }
     ensures first { IfOk result (FirstAmong (AppliesToSome (state_of state.old) given.now)) }
@@ -170,14 +169,14 @@ fn read_one(
     stop: Option<StaticError>,
 ) -> Result<Option<StaticError>, StatementError>
     requires proper { IsWritableFormula (formula_tree formula.now) }
-    requires ids { AreIds (IsId state.old.store) state.old.bindings }
+    requires ids { HasIds state.old }
     requires numbered { HasNumbers state.old.names (formula_tree formula.now) }
     ensures first { IfOk result (IsFirstWith (state_of state.old) (formula_tree formula.now) stop) }
-    ensures made { IfOk result (λ r. r ≡ None → IsOneMore state.new ids.old.items ids.new.items (resolve (state_of state.old).context (state_of state.old).bound state.old.names (formula_tree formula.now))) }
+    ensures made { IfOk result (λ r. r ≡ None → IsOneMore state.new ids.old.items ids.new.items (resolve (state_of state.old).context (known (state_of state.old)) state.old.names (formula_tree formula.now))) }
     ensures memory { IfErr result (λ e. e ≡ StatementError.Memory) }
     ensures kept { KeepsState state.old state.new }
 {
-    match resolved_part(state, formula) {
+    match resolved_plain(state, formula) {
         Ok(id) => match ids.push(id) {
             Ok(()) => Ok(stop),
             Err(_) => Err(StatementError::Memory),

@@ -11,4 +11,4 @@ pub use command_tools::{
     print_refusal, printed_line, put_fraction, static_refusal, text_of, text_of_truth,
     wanted_cases,
 };
-pub use reading::{resolved, resolved_part};
+pub use reading::{holds_quantifier, resolved};

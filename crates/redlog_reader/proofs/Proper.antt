@@ -1,10 +1,12 @@
 -- What proper terminals spell can be written, and leaves proper terminals.
-use Rattle.std.proofs.Common.{lit<, ◌^◌, ◌≡◌, ◌⊎◌, inl, inr, ℕ, zero, suc, ◌+◌, ◌<◌, true, List, [], ◌∷◌, ◌++◌, sym, refl, subst, arith}
+use Rattle.std.proofs.Common.{lit<, ◌^◌, ◌≡◌, ℕ, zero, suc, ◌+◌, ◌<◌, true, List, [], ◌∷◌, ◌++◌, length, sym, refl, ap, ap₂, subst, arith, lt-ltb, le-ltb}
 use Rattle.std.specs.Prelude.{ℤ, negsuc, neg_ℤ, unsigned_abs, pos, Some, None}
 use Rattle.std.specs.List.{AllByRecursion}
 use Rattle.std.proofs.lemmas.Int.{ints}
+use Rattle.std.proofs.lemmas.List.{length-replicate}
 use Rattle.formula_meaning.specs.Formula.{Yes, No, One, Not, And, Or, Impl, Repl, Equiv, Ex, All}
 use Rattle.formula_meaning.specs.Formula as plain
+use Rattle.formula_meaning.specs.Replaced.{all_replaced}
 use Rattle.formula_meaning.specs.Shape.{quantified}
 use Rattle.formula_meaning.specs.declared.quantifier.Quantifier.{Quantifier}
 use Rattle.formula_meaning.specs.declared.quantifier.Quantifier.TheVariants.{Exists, ForAll}
@@ -13,19 +15,18 @@ use Rattle.qe_syntax.specs.declared.tree.Literal.TheVariants.{Fits, Past}
 use Rattle.qe_syntax.specs.declared.tree.Relation.{Relation}
 use Rattle.qe_syntax.specs.declared.entries.PointEntry.{PointEntry}
 use Rattle.qe_syntax.specs.Names.{IsVariable}
-use Rattle.qe_syntax.specs.Trees.{TermTree, TermTrees, Number, Named, Sum, Product, Quotient, Power, Negative, terms_of, WrittenAtom, Compare, Cong, Ncong, Bound, FormulaTree, FormulaTrees}
-use Rattle.qe_syntax.specs.Trees as trees
-use Rattle.qe_syntax.specs.Holes.{InnerTree, Nest, Nests, nest, together, command_count, command_alone, Holed, whole, over, over_both, all_of, nested_under, computed}
+use Rattle.qe_syntax.specs.Trees.{TermTree, Negative, terms_of, WrittenAtom, Compare, Cong, Ncong, Bound, FormulaTree, FormulaTrees}
+use Rattle.qe_syntax.specs.Holes.{InnerTree, Nest, Nests, nest, inner_name, together, command_count, command_alone, Holed, whole, over, over_both, all_of, nested_under, computed}
 use Rattle.qe_syntax.specs.Holes as inside
-use Rattle.qe_syntax.specs.Proper.{IsNumeral, IsSigned, IsTermOver, AreTermsOver, IsAtomOver, IsFormulaOver, AreFormulasOver}
-use Rattle.qe_syntax.specs.Writable.{IsWritableEntry, AreWritableEntries, IsWritableTerm, AreWritableTerms, IsWritableFormula}
+use Rattle.qe_syntax.specs.Proper.{IsNumeral, IsSigned}
+use Rattle.qe_syntax.specs.Writable.{IsWritableEntry, AreWritableEntries, IsWritableTerm, AreWritableTerms, IsWritableAtom, IsWritableFormula, AreWritableFormulas}
 use Rattle.statement_syntax.specs.declared.grid.Ratio.{Ratio}
 use Rattle.statement_syntax.specs.declared.grid.GridAxis.{GridAxis}
 use Rattle.statement_syntax.specs.Constraints.{is_constraint, is_weak_constraint}
 use Rattle.statement_syntax.specs.ConstraintLists.{AreConstraints, AreWeakConstraints}
 use Rattle.statement_syntax.specs.Statements.{CommandTree, Echo, ActionTree, Ignored, Finish, Choose, Retract, StatementTree}
 use Rattle.statement_syntax.specs.Inner.{WithInner, bare, about, command_in, command_of}
-use Rattle.statement_syntax.specs.Writable.{IsWritableRatio, IsWritableAxis, AreWritableNumbers, IsNameBeside, IsCommandOver, IsActionOver, IsInnerOver, IsWritableNest, AreWritableNests, IsWritable}
+use Rattle.statement_syntax.specs.Writable.{IsWritableRatio, IsWritableAxis, AreWritableNumbers, unanswered_atom, unanswered, IsFormulaBeside, IsCommandOver, IsActionOver, IsInnerOver, IsWritableAction, IsWritableNest, AreWritableNests, IsWritable}
 use Rattle.redlog_tokens.specs.declared.terminal.Terminal.{Terminal}
 use Rattle.redlog_tokens.specs.declared.terminal.Terminal.TheVariants as terminal
 use Rattle.redlog_tokens.specs.declared.terminal.Mark.TheVariants as mark
@@ -94,59 +95,97 @@ mutual
   proper_members {before = before} (plus {t = t} p m) b h = let a = proper_product p h in proper_members m (more_terms before t b a.0) a.1
   proper_members {before = before} (minus {t = t} p m) b h = let a = proper_product p h in proper_members m (more_terms before (Negative t) b a.0) a.1
 
--- ---- names that are allowed for others are allowed
+-- the formulas with true in the places of answers
+abbrev all_unanswered : FormulaTrees → FormulaTrees
+all_unanswered fs = all_replaced unanswered_atom (λ x. x) fs
 
-module _ (K L : List ℕ → Type 0) (wide : (x : List ℕ) → K x → L x) where
-  mutual
-    wider_term : (t : TermTree) → IsTermOver K t → IsTermOver L t
-    wider_term (Number n) h = h
-    wider_term (Named x) h = wide x h
-    wider_term (Sum ts) h = (h.0, wider_terms ts h.1)
-    wider_term (Product ts) h = (h.0, wider_terms ts h.1)
-    wider_term (Quotient s t) h = (wider_term s h.0, wider_term t h.1)
-    wider_term (Power t n) h = (wider_term t h.0, h.1)
-    wider_term (Negative t) h = wider_term t h
+-- the formulas can be written, where these commands stand inside them and their answers have names
+abbrev AreFormulasBeside : Nests → FormulaTrees → Type 0
+AreFormulasBeside inside.alone fs = AreWritableFormulas fs
+AreFormulasBeside (inside.beside n ns) fs = AreWritableFormulas (all_unanswered fs)
 
-    wider_terms : (ts : TermTrees) → AreTermsOver K ts → AreTermsOver L ts
-    wider_terms trees.none h = tt
-    wider_terms (trees.also t ts) h = (wider_term t h.0, wider_terms ts h.1)
+-- ---- a formula that can be written has no name of an answer, so true in the place of answers leaves it as it is
 
-  wider_atom : (a : WrittenAtom) → IsAtomOver K a → IsAtomOver L a
-  wider_atom (Compare rel s t) h = (wider_term s h.0, wider_term t h.1)
-  wider_atom (Cong s t m) h = (wider_term s h.0, wider_term t h.1, wider_term m h.2)
-  wider_atom (Ncong s t m) h = (wider_term s h.0, wider_term t h.1, wider_term m h.2)
-  wider_atom (Bound x) h = wide x h
+same_atom : (a : WrittenAtom) → IsWritableAtom a → unanswered_atom a ≡ One a
+same_atom (Compare rel s t) h = refl
+same_atom (Cong s t m) h = refl
+same_atom (Ncong s t m) h = refl
+same_atom (Bound x) h = rw (le-ltb 64 (length x) h.few) refl
 
-  mutual
-    wider_formula : (f : FormulaTree) → IsFormulaOver K f → IsFormulaOver L f
-    wider_formula Yes h = tt
-    wider_formula No h = tt
-    wider_formula (One a) h = wider_atom a h
-    wider_formula (Not f) h = wider_formula f h
-    wider_formula (And fs) h = (h.0, wider_formulas fs h.1)
-    wider_formula (Or fs) h = (h.0, wider_formulas fs h.1)
-    wider_formula (Impl f g) h = (wider_formula f h.0, wider_formula g h.1)
-    wider_formula (Repl f g) h = (wider_formula f h.0, wider_formula g h.1)
-    wider_formula (Equiv f g) h = (wider_formula f h.0, wider_formula g h.1)
-    wider_formula (Ex x f) h = (wide x h.0, wider_formula f h.1)
-    wider_formula (All x f) h = (wide x h.0, wider_formula f h.1)
+mutual
+  unanswered_same : (f : FormulaTree) → IsWritableFormula f → unanswered f ≡ f
+  unanswered_same Yes h = refl
+  unanswered_same No h = refl
+  unanswered_same (One a) h = same_atom a h
+  unanswered_same (Not f) h = ap Not (unanswered_same f h)
+  unanswered_same (And fs) h = ap And (all_same fs h.1)
+  unanswered_same (Or fs) h = ap Or (all_same fs h.1)
+  unanswered_same (Impl f g) h = ap₂ Impl (unanswered_same f h.0) (unanswered_same g h.1)
+  unanswered_same (Repl f g) h = ap₂ Repl (unanswered_same f h.0) (unanswered_same g h.1)
+  unanswered_same (Equiv f g) h = ap₂ Equiv (unanswered_same f h.0) (unanswered_same g h.1)
+  unanswered_same (Ex x f) h = ap (Ex x) (unanswered_same f h.1)
+  unanswered_same (All x f) h = ap (All x) (unanswered_same f h.1)
 
-    wider_formulas : (fs : FormulaTrees) → AreFormulasOver K fs → AreFormulasOver L fs
-    wider_formulas plain.none h = tt
-    wider_formulas (plain.also f fs) h = (wider_formula f h.0, wider_formulas fs h.1)
+  all_same : (fs : FormulaTrees) → AreWritableFormulas fs → all_unanswered fs ≡ fs
+  all_same plain.none h = refl
+  all_same (plain.also f fs) h = ap₂ plain.also (unanswered_same f h.0) (all_same fs h.1)
 
-variable_beside : (ns : Nests) (x : List ℕ) → IsVariable x → IsNameBeside ns x
-variable_beside inside.alone x h = h
-variable_beside (inside.beside n ns) x h = inl h
+-- so it can be written beside any commands
+formula_beside : (ns : Nests) (f : FormulaTree) → IsWritableFormula f → IsFormulaBeside ns f
+formula_beside inside.alone f h = h
+formula_beside (inside.beside n ns) f h = subst IsWritableFormula (sym (unanswered_same f h)) h
 
-first_beside : (ns ms : Nests) (x : List ℕ) → IsNameBeside ns x → IsNameBeside (together ns ms) x
-first_beside inside.alone ms x h = variable_beside ms x h
-first_beside (inside.beside n ns) ms x h = h
+formulas_beside : (ns : Nests) (fs : FormulaTrees) → AreWritableFormulas fs → AreFormulasBeside ns fs
+formulas_beside inside.alone fs h = h
+formulas_beside (inside.beside n ns) fs h = subst AreWritableFormulas (sym (all_same fs h)) h
 
-second_beside : (ns ms : Nests) (x : List ℕ) → IsNameBeside ms x → IsNameBeside (together ns ms) x
-second_beside inside.alone ms x h = h
-second_beside (inside.beside n ns) inside.alone x h = inl h
-second_beside (inside.beside n ns) (inside.beside m ms) x h = h
+-- what can be written beside some commands can be beside more
+first_formula : (ns ms : Nests) (f : FormulaTree) → IsFormulaBeside ns f → IsFormulaBeside (together ns ms) f
+first_formula inside.alone ms f h = formula_beside ms f h
+first_formula (inside.beside n ns) ms f h = h
+
+second_formula : (ns ms : Nests) (f : FormulaTree) → IsFormulaBeside ms f → IsFormulaBeside (together ns ms) f
+second_formula inside.alone ms f h = h
+second_formula (inside.beside n ns) inside.alone f h = formula_beside (inside.beside n ns) f h
+second_formula (inside.beside n ns) (inside.beside m ms) f h = h
+
+second_formulas : (ns ms : Nests) (fs : FormulaTrees) → AreFormulasBeside ms fs → AreFormulasBeside (together ns ms) fs
+second_formulas inside.alone ms fs h = h
+second_formulas (inside.beside n ns) inside.alone fs h = formulas_beside (inside.beside n ns) fs h
+second_formulas (inside.beside n ns) (inside.beside m ms) fs h = h
+
+-- ---- a formula can be written where its parts can
+
+pair_beside : (g : FormulaTree → FormulaTree → FormulaTree) → ((a b : FormulaTree) → unanswered (g a b) ≡ g (unanswered a) (unanswered b)) → ((a b : FormulaTree) → IsWritableFormula a → IsWritableFormula b → IsWritableFormula (g a b))
+    → (ns : Nests) (a b : FormulaTree) → IsFormulaBeside ns a → IsFormulaBeside ns b → IsFormulaBeside ns (g a b)
+pair_beside g goes made inside.alone a b p q = made a b p q
+pair_beside g goes made (inside.beside n ns) a b p q = subst IsWritableFormula (sym (goes a b)) (made (unanswered a) (unanswered b) p q)
+
+not_beside : (ns : Nests) (f : FormulaTree) → IsFormulaBeside ns f → IsFormulaBeside ns (Not f)
+not_beside inside.alone f h = h
+not_beside (inside.beside n ns) f h = h
+
+quantified_beside : (quantifier : Quantifier) (ns : Nests) (x : List ℕ) (f : FormulaTree) → IsVariable x → IsFormulaBeside ns f → IsFormulaBeside ns (quantified quantifier x f)
+quantified_beside ForAll inside.alone x f v h = (v, h)
+quantified_beside ForAll (inside.beside n ns) x f v h = (v, h)
+quantified_beside Exists inside.alone x f v h = (v, h)
+quantified_beside Exists (inside.beside n ns) x f v h = (v, h)
+
+also_beside : (ns : Nests) (f : FormulaTree) (fs : FormulaTrees) → IsFormulaBeside ns f → AreFormulasBeside ns fs → AreFormulasBeside ns (plain.also f fs)
+also_beside inside.alone f fs p q = (p, q)
+also_beside (inside.beside n ns) f fs p q = (p, q)
+
+and_beside : (ns : Nests) (f g : FormulaTree) (fs : FormulaTrees) → AreFormulasBeside ns (plain.also f (plain.also g fs)) → IsFormulaBeside ns (And (plain.also f (plain.also g fs)))
+and_beside inside.alone f g fs h = (tt, h)
+and_beside (inside.beside n ns) f g fs h = (tt, h)
+
+or_beside : (ns : Nests) (f g : FormulaTree) (fs : FormulaTrees) → AreFormulasBeside ns (plain.also f (plain.also g fs)) → IsFormulaBeside ns (Or (plain.also f (plain.also g fs)))
+or_beside inside.alone f g fs h = (tt, h)
+or_beside (inside.beside n ns) f g fs h = (tt, h)
+
+-- the name of an answer is longer than each that a script can write
+answer_beside : (n : Nest) (k : ℕ) → IsFormulaBeside (inside.beside n inside.alone) (One (Bound (inner_name k)))
+answer_beside n k = rw (lt-ltb 64 (length (inner_name k)) (omega (arith, length-replicate {A = ℕ} (65 + k) 0))) tt
 
 all_nests : (ns ms : Nests) → AreWritableNests ns → AreWritableNests ms → AreWritableNests (together ns ms)
 all_nests inside.alone ms h k = k
@@ -155,36 +194,52 @@ all_nests (inside.beside n ns) ms h k = (h.0, all_nests ns ms h.1 k)
 -- ---- formulas that can be written, and so can the commands inside them
 
 pub record IsWritten (f : Written) : Type 0 where
-  pub named : (k : ℕ) → IsFormulaOver (IsNameBeside f.inner) (f.named k)
+  pub named : (k : ℕ) → IsFormulaBeside f.inner (f.named k)
   pub inner : AreWritableNests f.inner
 
 pub record AreWritten (fs : Holed FormulaTrees) : Type 0 where
-  pub named : (k : ℕ) → AreFormulasOver (IsNameBeside fs.inner) (fs.named k)
+  pub named : (k : ℕ) → AreFormulasBeside fs.inner (fs.named k)
   pub inner : AreWritableNests fs.inner
 
--- the names of two parts, with the commands of both
-module _ (ns ms : Nests) where
-  first_formula : (f : FormulaTree) → IsFormulaOver (IsNameBeside ns) f → IsFormulaOver (IsNameBeside (together ns ms)) f
-  first_formula f h = wider_formula (IsNameBeside ns) (IsNameBeside (together ns ms)) (first_beside ns ms) f h
+-- the same, with no name of an answer: so no command stands in what a command assumes
+pub record IsPlain (f : Written) : Type 0 where
+  pub named : (k : ℕ) → IsWritableFormula (f.named k)
+  pub inner : AreWritableNests f.inner
 
-  second_formula : (f : FormulaTree) → IsFormulaOver (IsNameBeside ms) f → IsFormulaOver (IsNameBeside (together ns ms)) f
-  second_formula f h = wider_formula (IsNameBeside ms) (IsNameBeside (together ns ms)) (second_beside ns ms) f h
+pub record ArePlain (fs : Holed FormulaTrees) : Type 0 where
+  pub named : (k : ℕ) → AreWritableFormulas (fs.named k)
+  pub inner : AreWritableNests fs.inner
 
-  second_formulas : (fs : FormulaTrees) → AreFormulasOver (IsNameBeside ms) fs → AreFormulasOver (IsNameBeside (together ns ms)) fs
-  second_formulas fs h = wider_formulas (IsNameBeside ms) (IsNameBeside (together ns ms)) (second_beside ns ms) fs h
+plain_written : (f : Written) → IsPlain f → IsWritten f
+plain_written f p = record { named = λ k. formula_beside f.inner (f.named k) (p.named k); inner = p.inner }
+
+plain_whole : (f : FormulaTree) → IsWritableFormula f → IsPlain (whole f)
+plain_whole f h = record { named = λ k. h; inner = tt }
+
+plain_all : (fs : List Written) → AllByRecursion IsPlain fs → ArePlain (all_of fs)
+plain_all [] h = record { named = λ k. tt; inner = tt }
+plain_all (f ∷ fs) h = let rest = plain_all fs h.1 in record {
+  named = λ k. (h.0.named k, rest.named (k + command_count f.inner));
+  inner = all_nests f.inner (all_of fs).inner h.0.inner rest.inner;
+}
 
 written_whole : (f : FormulaTree) → IsWritableFormula f → IsWritten (whole f)
 written_whole f h = record { named = λ k. h; inner = tt }
 
-written_pair : (g : FormulaTree → FormulaTree → FormulaTree) → ((K : List ℕ → Type 0) (a b : FormulaTree) → IsFormulaOver K a → IsFormulaOver K b → IsFormulaOver K (g a b)) → (f h : Written) → IsWritten f → IsWritten h → IsWritten (over_both g f h)
-written_pair g made f h p q = record {
-  named = λ k. made (IsNameBeside (together f.inner h.inner)) (f.named k) (h.named (k + command_count f.inner)) (first_formula f.inner h.inner (f.named k) (p.named k)) (second_formula f.inner h.inner (h.named (k + command_count f.inner)) (q.named (k + command_count f.inner)));
+written_pair : (g : FormulaTree → FormulaTree → FormulaTree) → ((a b : FormulaTree) → unanswered (g a b) ≡ g (unanswered a) (unanswered b)) → ((a b : FormulaTree) → IsWritableFormula a → IsWritableFormula b → IsWritableFormula (g a b))
+    → (f h : Written) → IsWritten f → IsWritten h → IsWritten (over_both g f h)
+written_pair g goes made f h p q = record {
+  named = λ k.
+      let later = k + command_count f.inner in
+      pair_beside g goes made (together f.inner h.inner) (f.named k) (h.named later) (first_formula f.inner h.inner (f.named k) (p.named k)) (second_formula f.inner h.inner (h.named later) (q.named later));
   inner = all_nests f.inner h.inner p.inner q.inner;
 }
 
 written_also : (f : Written) (fs : Holed FormulaTrees) → IsWritten f → AreWritten fs → AreWritten (over_both plain.also f fs)
 written_also f fs p q = record {
-  named = λ k. (first_formula f.inner fs.inner (f.named k) (p.named k), second_formulas f.inner fs.inner (fs.named (k + command_count f.inner)) (q.named (k + command_count f.inner)));
+  named = λ k.
+      let later = k + command_count f.inner in
+      also_beside (together f.inner fs.inner) (f.named k) (fs.named later) (first_formula f.inner fs.inner (f.named k) (p.named k)) (second_formulas f.inner fs.inner (fs.named later) (q.named later));
   inner = all_nests f.inner fs.inner p.inner q.inner;
 }
 
@@ -192,14 +247,14 @@ written_all : (fs : List Written) → AllByRecursion IsWritten fs → AreWritten
 written_all [] h = record { named = λ k. tt; inner = tt }
 written_all (f ∷ fs) h = written_also f (all_of fs) h.0 (written_all fs h.1)
 
-proper_comparison : {ts r : List Terminal} {f : Written} → SpellsComparison ts f r → AreProperTerminals ts → IsWritten f × AreProperTerminals r
-proper_comparison (comparison {us = us} p is q) h = let a = proper_spelled_sum p h in let b = proper_spelled_sum q (after_relation us is a.1) in (written_whole _ (a.0, b.0), b.1)
+proper_comparison : {ts r : List Terminal} {f : Written} → SpellsComparison ts f r → AreProperTerminals ts → IsPlain f × AreProperTerminals r
+proper_comparison (comparison {us = us} p is q) h = let a = proper_spelled_sum p h in let b = proper_spelled_sum q (after_relation us is a.1) in (plain_whole _ (a.0, b.0), b.1)
 
-proper_congruence : {ts r : List Terminal} {f : Written} → SpellsCongruence ts f r → AreProperTerminals ts → IsWritten f × AreProperTerminals r
-proper_congruence (congruent p q m) h = let a = proper_spelled_sum p h in let b = proper_spelled_sum q a.1 in let c = proper_spelled_sum m b.1 in (written_whole _ (a.0, b.0, c.0), c.1)
-proper_congruence (incongruent p q m) h = let a = proper_spelled_sum p h in let b = proper_spelled_sum q a.1 in let c = proper_spelled_sum m b.1 in (written_whole _ (a.0, b.0, c.0), c.1)
+proper_congruence : {ts r : List Terminal} {f : Written} → SpellsCongruence ts f r → AreProperTerminals ts → IsPlain f × AreProperTerminals r
+proper_congruence (congruent p q m) h = let a = proper_spelled_sum p h in let b = proper_spelled_sum q a.1 in let c = proper_spelled_sum m b.1 in (plain_whole _ (a.0, b.0, c.0), c.1)
+proper_congruence (incongruent p q m) h = let a = proper_spelled_sum p h in let b = proper_spelled_sum q a.1 in let c = proper_spelled_sum m b.1 in (plain_whole _ (a.0, b.0, c.0), c.1)
 
-pub proper_atom : {ts r : List Terminal} {f : Written} → SpellsAtom ts f r → AreProperTerminals ts → IsWritten f × AreProperTerminals r
+pub proper_atom : {ts r : List Terminal} {f : Written} → SpellsAtom ts f r → AreProperTerminals ts → IsPlain f × AreProperTerminals r
 proper_atom (compared_atom p) h = proper_comparison p h
 proper_atom (congruent_atom p) h = proper_congruence p h
 
@@ -213,8 +268,8 @@ proper_braced : {X : Type 0} {Item : List Terminal → X → List Terminal → T
 proper_braced each empty h = (tt, h)
 proper_braced each (listed p) h = let a = proper_items each p h in (a.0, a.1)
 
-proper_atoms : {ts r : List Terminal} {fs : List Written} → SpellsAtoms ts fs r → AreProperTerminals ts → AreWritten (all_of fs) × AreProperTerminals r
-proper_atoms {fs = fs} p h = let a = proper_braced {P = IsWritten} (λ us rest x q k. proper_atom q k) p h in (written_all fs a.0, a.1)
+proper_atoms : {ts r : List Terminal} {fs : List Written} → SpellsAtoms ts fs r → AreProperTerminals ts → ArePlain (all_of fs) × AreProperTerminals r
+proper_atoms {fs = fs} p h = let a = proper_braced {P = IsPlain} (λ us rest x q k. proper_atom q k) p h in (plain_all fs a.0, a.1)
 
 proper_list : {ts r : List Terminal} {xs : List (List ℕ)} → Names ts xs r → AreProperTerminals ts → AllByRecursion IsVariable xs × AreProperTerminals r
 proper_list last_name h = ((h.0, tt), h.1)
@@ -225,8 +280,7 @@ proper_names one_name h = ((h.0, tt), h.1)
 proper_names (many_names p) h = let a = proper_list p h in (a.0, a.1)
 
 proper_quantifier : (quantifier : Quantifier) (x : List ℕ) (f : Written) → IsVariable x → IsWritten f → IsWritten (over (quantified quantifier x) f)
-proper_quantifier ForAll x f v h = record { named = λ k. (variable_beside f.inner x v, h.named k); inner = h.inner }
-proper_quantifier Exists x f v h = record { named = λ k. (variable_beside f.inner x v, h.named k); inner = h.inner }
+proper_quantifier quantifier x f v h = record { named = λ k. quantified_beside quantifier f.inner x (f.named k) v (h.named k); inner = h.inner }
 
 proper_quantified : (quantifier : Quantifier) (xs : List (List ℕ)) (f : Written) → AllByRecursion IsVariable xs → IsWritten f → IsWritten (quantified_names quantifier xs f)
 proper_quantified quantifier [] f v h = h
@@ -248,31 +302,41 @@ more_formulas (g ∷ fs) f h p = (h.0, all_formulas fs f h.1 p)
 proper_and : (fs : List Written) → ProperFormulas fs → IsWritten (conjunction_of fs)
 proper_and [] h = absurd h
 proper_and (f ∷ []) h = h.0
-proper_and (f ∷ g ∷ fs) h = let all = written_all (f ∷ g ∷ fs) h in record { named = λ k. (tt, all.named k); inner = all.inner }
+proper_and (f ∷ g ∷ fs) h =
+    let all = written_all (f ∷ g ∷ fs) h in
+    record {
+      named = λ k. and_beside (all_of (f ∷ g ∷ fs)).inner (f.named k) (g.named (k + command_count f.inner)) ((all_of fs).named (k + command_count f.inner + command_count g.inner)) (all.named k);
+      inner = all.inner;
+    }
 
 proper_or : (fs : List Written) → ProperFormulas fs → IsWritten (disjunction_of fs)
 proper_or [] h = absurd h
 proper_or (f ∷ []) h = h.0
-proper_or (f ∷ g ∷ fs) h = let all = written_all (f ∷ g ∷ fs) h in record { named = λ k. (tt, all.named k); inner = all.inner }
+proper_or (f ∷ g ∷ fs) h =
+    let all = written_all (f ∷ g ∷ fs) h in
+    record {
+      named = λ k. or_beside (all_of (f ∷ g ∷ fs)).inner (f.named k) (g.named (k + command_count f.inner)) ((all_of fs).named (k + command_count f.inner + command_count g.inner)) (all.named k);
+      inner = all.inner;
+    }
 
 -- a command over a formula and a list
-under_given : (c : FormulaTree → FormulaTrees → InnerTree) → ((K : List ℕ → Type 0) (f : FormulaTree) (fs : FormulaTrees) → IsFormulaOver K f → AreFormulasOver K fs → IsInnerOver K (c f fs)) → (f : Written) (given : Holed FormulaTrees) → IsWritten f → AreWritten given
+under_given : (c : FormulaTree → FormulaTrees → InnerTree) → ((P : FormulaTree → Type 0) (f : FormulaTree) (fs : FormulaTrees) → P f → AreWritableFormulas fs → IsInnerOver P (c f fs)) → (f : Written) (given : Holed FormulaTrees) → IsWritten f → ArePlain given
     → IsWritableNest (nested_under c f given)
 under_given c made f given p q = (
-  made (IsNameBeside (together f.inner given.inner)) (f.named 0) (given.named (command_count f.inner)) (first_formula f.inner given.inner (f.named 0) (p.named 0)) (second_formulas f.inner given.inner (given.named (command_count f.inner)) (q.named (command_count f.inner))),
+  made (IsFormulaBeside (together f.inner given.inner)) (f.named 0) (given.named (command_count f.inner)) (first_formula f.inner given.inner (f.named 0) (p.named 0)) (q.named (command_count f.inner)),
   all_nests f.inner given.inner p.inner q.inner,
 )
 
-proper_command : (i : InnerWord) (f : Written) (given : List Written) → IsWritten f → AreWritten (all_of given) → IsWritableNest (command i f given)
+proper_command : (i : InnerWord) (f : Written) (given : List Written) → IsWritten f → ArePlain (all_of given) → IsWritableNest (command i f given)
 proper_command begins.Nnf f given p q = (p.named 0, p.inner)
 proper_command begins.Pnf f given p q = (p.named 0, p.inner)
 proper_command begins.Dnf f given p q = (p.named 0, p.inner)
 proper_command begins.Cnf f given p q = (p.named 0, p.inner)
-proper_command begins.Simpl f given p q = under_given inside.Simpl (λ K a b h k. (h, k)) f (all_of given) p q
-proper_command begins.Qe f given p q = under_given inside.Qe (λ K a b h k. (h, k)) f (all_of given) p q
+proper_command begins.Simpl f given p q = under_given inside.Simpl (λ P a b h k. (h, k)) f (all_of given) p q
+proper_command begins.Qe f given p q = under_given inside.Qe (λ P a b h k. (h, k)) f (all_of given) p q
 
 written_computed : (n : Nest) → IsWritableNest n → IsWritten (computed n)
-written_computed n h = record { named = λ k. inr (k, refl); inner = (h, tt) }
+written_computed n h = record { named = λ k. answer_beside n k; inner = (h, tt) }
 
 after_word : (w : Word) (ts : List Terminal) → AreProperTerminals (terminal.Word w ∷ ts) → AreProperTerminals ts
 after_word w ts h = h
@@ -282,21 +346,21 @@ mutual
   proper_prime truth h = (written_whole _ tt, h)
   proper_prime falsity h = (written_whole _ tt, h)
   proper_prime named_formula h = (written_whole _ h.0, h.1)
-  proper_prime (congruence p) h = proper_congruence p h
+  proper_prime (congruence {f = f} p) h = let a = proper_congruence p h in (plain_written f a.0, a.1)
   proper_prime (inner_formula p) h = let a = proper_formula p h in (a.0, a.1)
   proper_prime (exists {xs = xs} {f = f} p q is) h = let a = proper_names p h in let b = proper_formula q a.1 in (subst IsWritten (sym is) (proper_quantified Exists xs f a.0 b.0), b.1)
   proper_prime (for_all {xs = xs} {f = f} p q is) h = let a = proper_names p h in let b = proper_formula q a.1 in (subst IsWritten (sym is) (proper_quantified ForAll xs f a.0 b.0), b.1)
   proper_prime (inner_command {w = w} {i = i} {ts = ts} {f = f} e p is) h =
       let a = proper_prime p (after_word w ts h) in
-      (subst IsWritten (sym is) (written_computed (command i f []) (proper_command i f [] a.0 (written_all [] tt))), a.1)
+      (subst IsWritten (sym is) (written_computed (command i f []) (proper_command i f [] a.0 (plain_all [] tt))), a.1)
   proper_prime (inner_under {w = w} {i = i} {ts = ts} {f = f} {given = given} e takes p q is) h =
       let a = proper_formula p (after_word w (terminal.Mark mark.Open ∷ ts) h) in
       let b = proper_atoms q a.1 in
       (subst IsWritten (sym is) (written_computed (command i f given) (proper_command i f given a.0 b.0)), b.1)
 
   proper_negation : {ts r : List Terminal} {f : Written} → SpellsNegation ts f r → AreProperTerminals ts → IsWritten f × AreProperTerminals r
-  proper_negation (negation p) h = let a = proper_negation p h in (record { named = a.0.named; inner = a.0.inner }, a.1)
-  proper_negation (compared p) h = proper_comparison p h
+  proper_negation (negation {f = f} p) h = let a = proper_negation p h in (record { named = λ k. not_beside f.inner (f.named k) (a.0.named k); inner = a.0.inner }, a.1)
+  proper_negation (compared {f = f} p) h = let a = proper_comparison p h in (plain_written f a.0, a.1)
   proper_negation (prime p) h = proper_prime p h
 
   proper_conjunction : {ts r : List Terminal} {f : Written} → SpellsConjunction ts f r → AreProperTerminals ts → IsWritten f × AreProperTerminals r
@@ -315,21 +379,21 @@ mutual
 
   proper_implication : {ts r : List Terminal} {f : Written} → SpellsImplication ts f r → AreProperTerminals ts → IsWritten f × AreProperTerminals r
   proper_implication (no_implication p) h = proper_disjunction p h
-  proper_implication (implication {f = f} {g = g} p q) h = let a = proper_disjunction p h in let b = proper_implication q a.1 in (written_pair Impl (λ K x y u v. (u, v)) f g a.0 b.0, b.1)
+  proper_implication (implication {f = f} {g = g} p q) h = let a = proper_disjunction p h in let b = proper_implication q a.1 in (written_pair Impl (λ x y. refl) (λ x y u v. (u, v)) f g a.0 b.0, b.1)
 
   proper_replication : {ts r : List Terminal} {f : Written} → SpellsReplication ts f r → AreProperTerminals ts → IsWritten f × AreProperTerminals r
   proper_replication (replication p m) h = let a = proper_implication p h in proper_repls m a.0 a.1
 
   proper_repls : {before : Written} {ts r : List Terminal} {f : Written} → Repls before ts f r → IsWritten before → AreProperTerminals ts → IsWritten f × AreProperTerminals r
   proper_repls (no_repl is) b h = (subst IsWritten (sym is) b, h)
-  proper_repls {before = before} (repl {f = f} p m) b h = let a = proper_implication p h in proper_repls m (written_pair Repl (λ K x y u v. (u, v)) before f b a.0) a.1
+  proper_repls {before = before} (repl {f = f} p m) b h = let a = proper_implication p h in proper_repls m (written_pair Repl (λ x y. refl) (λ x y u v. (u, v)) before f b a.0) a.1
 
   pub proper_formula : {ts r : List Terminal} {f : Written} → SpellsFormula ts f r → AreProperTerminals ts → IsWritten f × AreProperTerminals r
   proper_formula (equivalence p m) h = let a = proper_replication p h in proper_equivs m a.0 a.1
 
   proper_equivs : {before : Written} {ts r : List Terminal} {f : Written} → Equivs before ts f r → IsWritten before → AreProperTerminals ts → IsWritten f × AreProperTerminals r
   proper_equivs (no_equiv is) b h = (subst IsWritten (sym is) b, h)
-  proper_equivs {before = before} (equiv {f = f} p m) b h = let a = proper_replication p h in proper_equivs m (written_pair Equiv (λ K x y u v. (u, v)) before f b a.0) a.1
+  proper_equivs {before = before} (equiv {f = f} p m) b h = let a = proper_replication p h in proper_equivs m (written_pair Equiv (λ x y. refl) (λ x y u v. (u, v)) before f b a.0) a.1
 
 abs_neg : (n : ℤ) → unsigned_abs (neg_ℤ n) ≡ unsigned_abs n
 abs_neg (pos zero) = refl
@@ -364,8 +428,8 @@ proper_entry (entry is above below) h =
 pub proper_point : {ts r : List Terminal} {es : List PointEntry} → SpellsPoint ts es r → AreProperTerminals ts → AreWritableEntries es × AreProperTerminals r
 proper_point p h = proper_braced {P = IsWritableEntry} (λ us rest x q k. proper_entry q k) p h
 
-proper_argument : {ts r : List Terminal} {f : Written} {given : List Written} → SpellsArgument ts f given r → AreProperTerminals ts → (IsWritten f × AreWritten (all_of given)) × AreProperTerminals r
-proper_argument (alone p) h = let a = proper_prime p h in ((a.0, written_all [] tt), a.1)
+proper_argument : {ts r : List Terminal} {f : Written} {given : List Written} → SpellsArgument ts f given r → AreProperTerminals ts → (IsWritten f × ArePlain (all_of given)) × AreProperTerminals r
+proper_argument (alone p) h = let a = proper_prime p h in ((a.0, plain_all [] tt), a.1)
 proper_argument (under p q) h =
     let a = proper_formula p h in
     let b = proper_atoms q a.1 in
@@ -373,19 +437,19 @@ proper_argument (under p q) h =
 
 -- a command that can be written, and so can those inside it
 pub record IsProperCommand (c : WithInner CommandTree) : Type 0 where
-  pub tree : IsCommandOver (IsNameBeside c.inner) c.tree
+  pub tree : IsCommandOver (IsFormulaBeside c.inner) c.tree
   pub inner : AreWritableNests c.inner
 
-command_alone_proper : (K : List ℕ → Type 0) (c : InnerTree) → IsInnerOver K c → IsCommandOver K (command_of c)
-command_alone_proper K (inside.Nnf f) h = h
-command_alone_proper K (inside.Pnf f) h = h
-command_alone_proper K (inside.Dnf f) h = h
-command_alone_proper K (inside.Cnf f) h = h
-command_alone_proper K (inside.Simpl f given) h = h
-command_alone_proper K (inside.Qe f given) h = h
+command_alone_proper : (P : FormulaTree → Type 0) (c : InnerTree) → IsInnerOver P c → IsCommandOver P (command_of c)
+command_alone_proper P (inside.Nnf f) h = h
+command_alone_proper P (inside.Pnf f) h = h
+command_alone_proper P (inside.Dnf f) h = h
+command_alone_proper P (inside.Cnf f) h = h
+command_alone_proper P (inside.Simpl f given) h = h
+command_alone_proper P (inside.Qe f given) h = h
 
 command_in_proper : (n : Nest) → IsWritableNest n → IsProperCommand (command_in n)
-command_in_proper (nest c ns) h = record { tree = command_alone_proper (IsNameBeside ns) c h.0; inner = h.1 }
+command_in_proper (nest c ns) h = record { tree = command_alone_proper (IsFormulaBeside ns) c h.0; inner = h.1 }
 
 alone_proper : (t : FormulaTree) (ns : Nests) (echo : WithInner CommandTree) → AreWritableNests ns → IsProperCommand echo → IsProperCommand (elim (command_alone t ns) [ None ↦ echo | Some n ↦ command_in n ])
 alone_proper (One (Bound [])) (inside.beside n inside.alone) echo w e = command_in_proper n w.0
@@ -411,39 +475,39 @@ proper_axis (axis is low high step) h =
 
 -- a constraint that can be written
 abbrev IsProperBound : Written → Type 0
-IsProperBound f = IsWritten f × ((k : ℕ) → is_constraint (f.named k) ≡ true)
+IsProperBound f = IsPlain f × ((k : ℕ) → is_constraint (f.named k) ≡ true)
 
 proper_bound : {ts r : List Terminal} {f : Written} → SpellsBound ts f r → AreProperTerminals ts → IsProperBound f × AreProperTerminals r
 proper_bound (bound (comparison p is q) e) h = let a = proper_comparison (comparison p is q) h in ((a.0, λ k. e), a.1)
 
-written_bounds : (fs : List Written) → AllByRecursion IsProperBound fs → AllByRecursion IsWritten fs
-written_bounds [] h = tt
-written_bounds (f ∷ fs) h = (h.0.0, written_bounds fs h.1)
+plain_bounds : (fs : List Written) → AllByRecursion IsProperBound fs → AllByRecursion IsPlain fs
+plain_bounds [] h = tt
+plain_bounds (f ∷ fs) h = (h.0.0, plain_bounds fs h.1)
 
 all_bounds : (fs : List Written) → AllByRecursion IsProperBound fs → (k : ℕ) → AreConstraints ((all_of fs).named k)
 all_bounds [] h k = tt
 all_bounds (f ∷ fs) h k = (h.0.1 k, all_bounds fs h.1 (k + command_count f.inner))
 
-pub proper_bounds : {ts r : List Terminal} {fs : List Written} → SpellsBounds ts fs r → AreProperTerminals ts → (AreWritten (all_of fs) × AreConstraints ((all_of fs).named 0)) × AreProperTerminals r
-proper_bounds {fs = fs} p h = let a = proper_braced {P = IsProperBound} (λ us rest x q k. proper_bound q k) p h in ((written_all fs (written_bounds fs a.0), all_bounds fs a.0 0), a.1)
+pub proper_bounds : {ts r : List Terminal} {fs : List Written} → SpellsBounds ts fs r → AreProperTerminals ts → (ArePlain (all_of fs) × AreConstraints ((all_of fs).named 0)) × AreProperTerminals r
+proper_bounds {fs = fs} p h = let a = proper_braced {P = IsProperBound} (λ us rest x q k. proper_bound q k) p h in ((plain_all fs (plain_bounds fs a.0), all_bounds fs a.0 0), a.1)
 
 -- a weak constraint that can be written
 abbrev IsProperWeak : Written → Type 0
-IsProperWeak f = IsWritten f × ((k : ℕ) → is_weak_constraint (f.named k) ≡ true)
+IsProperWeak f = IsPlain f × ((k : ℕ) → is_weak_constraint (f.named k) ≡ true)
 
 proper_weak : {ts r : List Terminal} {f : Written} → SpellsWeak ts f r → AreProperTerminals ts → IsProperWeak f × AreProperTerminals r
 proper_weak (weak (comparison p is q) e) h = let a = proper_comparison (comparison p is q) h in ((a.0, λ k. e), a.1)
 
-written_weaks : (fs : List Written) → AllByRecursion IsProperWeak fs → AllByRecursion IsWritten fs
-written_weaks [] h = tt
-written_weaks (f ∷ fs) h = (h.0.0, written_weaks fs h.1)
+plain_weaks : (fs : List Written) → AllByRecursion IsProperWeak fs → AllByRecursion IsPlain fs
+plain_weaks [] h = tt
+plain_weaks (f ∷ fs) h = (h.0.0, plain_weaks fs h.1)
 
 all_weaks : (fs : List Written) → AllByRecursion IsProperWeak fs → (k : ℕ) → AreWeakConstraints ((all_of fs).named k)
 all_weaks [] h k = tt
 all_weaks (f ∷ fs) h k = (h.0.1 k, all_weaks fs h.1 (k + command_count f.inner))
 
-proper_weaks : {ts r : List Terminal} {fs : List Written} → SpellsWeaks ts fs r → AreProperTerminals ts → (AreWritten (all_of fs) × AreWeakConstraints ((all_of fs).named 0)) × AreProperTerminals r
-proper_weaks {fs = fs} p h = let a = proper_braced {P = IsProperWeak} (λ us rest x q k. proper_weak q k) p h in ((written_all fs (written_weaks fs a.0), all_weaks fs a.0 0), a.1)
+proper_weaks : {ts r : List Terminal} {fs : List Written} → SpellsWeaks ts fs r → AreProperTerminals ts → (ArePlain (all_of fs) × AreWeakConstraints ((all_of fs).named 0)) × AreProperTerminals r
+proper_weaks {fs = fs} p h = let a = proper_braced {P = IsProperWeak} (λ us rest x q k. proper_weak q k) p h in ((plain_all fs (plain_weaks fs a.0), all_weaks fs a.0 0), a.1)
 
 proper_wholes : {ts r : List Terminal} {ns : List Literal} → SpellsWholes ts ns r → AreProperTerminals ts → AreWritableNumbers ns × AreProperTerminals r
 proper_wholes p h = proper_braced {P = IsSigned} (λ us rest x q k. proper_above q k) p h
@@ -451,7 +515,7 @@ proper_wholes p h = proper_braced {P = IsSigned} (λ us rest x q k. proper_above
 proper_query : {ts r : List Terminal} {c : WithInner CommandTree} → SpellsQuery ts c r → AreProperTerminals ts → IsProperCommand c × AreProperTerminals r
 proper_query (qea {f = f} {given = given} p) h =
     let a = proper_argument p h in
-    let both = under_given inside.Qe (λ K x y u v. (u, v)) f (all_of given) a.0.0 a.0.1 in
+    let both = under_given inside.Qe (λ P x y u v. (u, v)) f (all_of given) a.0.0 a.0.1 in
     (record { tree = both.0; inner = both.1 }, a.1)
 proper_query (holds p q) h = let a = proper_formula p h in let b = proper_point q a.1 in (record { tree = (a.0.named 0, b.0); inner = a.0.inner }, b.1)
 proper_query (witness p q) h = let a = proper_formula p h in let b = proper_point q a.1 in (record { tree = (a.0.named 0, b.0); inner = a.0.inner }, b.1)
@@ -465,10 +529,10 @@ proper_query (least p q) h = let a = proper_weaks p h in let b = proper_spelled_
 
 -- an action that can be written, and so can the commands inside it
 pub record IsProperAction (a : WithInner ActionTree) : Type 0 where
-  pub tree : IsActionOver (IsNameBeside a.inner) a.tree
+  pub tree : IsActionOver (IsFormulaBeside a.inner) a.tree
   pub inner : AreWritableNests a.inner
 
-bare_action : (a : ActionTree) → IsActionOver IsVariable a → IsProperAction (bare a)
+bare_action : (a : ActionTree) → IsWritableAction a → IsProperAction (bare a)
 bare_action a h = record { tree = h; inner = tt }
 
 proper_action : {ts r : List Terminal} {a : WithInner ActionTree} → SpellsAction ts a r → AreProperTerminals ts → IsProperAction a

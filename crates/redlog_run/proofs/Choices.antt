@@ -1,11 +1,12 @@
 -- A script whose statements have no formula has exactly one run.
 use Rattle.std.proofs.Common.{◌≡◌, ◌≢◌, ℕ, ◌<◌, ◌≤◌, ◌^◌, Bool, true, false, ◌||◌, codes, List, [], ◌∷◌, ◌++◌, length, refl, sym, ap, ◌∙◌, subst, append-nil, arith, if◌then◌else◌}
-use Rattle.std.specs.List.{AllByRecursion}
+use Rattle.std.specs.List.{AllByRecursion, fold}
 use Rattle.std.specs.declared.alloc.Global.{Global}
 use Rattle.std.specs.declared.vec.Vec.{Vec}
 use denote.RawPtr.{null_ptr}
 use Rattle.formula_meaning.specs.Context.{Context, Fields, Integers}
 use Rattle.qe_syntax.specs.Holes.{alone}
+use Rattle.formula_tree.specs.Names.{with_name}
 use Rattle.statement_syntax.specs.Statements.{ActionTree, Empty, Ignored, Finish, Choose, Say, Assign, Assume, Retract, StatementTree}
 use Rattle.redlog_tokens.specs.Pieces.{IsPiece}
 use Rattle.redlog_reader.specs.Statement.{Spells}
@@ -15,13 +16,12 @@ use Rattle.session_meaning.specs.declared.line.Line.{Line}
 use Rattle.session_meaning.specs.declared.line.Line.TheVariants as line
 use Rattle.session_meaning.specs.declared.line.StatementError.{StatementError}
 use Rattle.session_meaning.specs.Words.{context_text}
-use Rattle.session_meaning.specs.State.{State, with_standing, theory_of, chosen, first_state}
-use Rattle.session_meaning.specs.Reply.{IsLine}
-use Rattle.session_meaning.specs.Reply.{Answers, RefusesAction}
+use Rattle.session_meaning.specs.State.{State, with_standing, with_answers, theory_of, chosen, first_state}
+use Rattle.session_meaning.specs.Reply.{IsLine, statement_variables, IsReached, Answers, RefusesAction}
 use Rattle.redlog_run.specs.Lines.{newline, lines_of}
 use Rattle.redlog_run.specs.Run as run
 use Rattle.redlog_run.specs.Run.{AnswersPiece, finished, answered, refused, Run, piece_bytes}
-use Rattle.redlog_run.proofs.Unrefused.{never, action_refused}
+use Rattle.redlog_run.proofs.Unrefused.{plain_state, never, action_refused}
 use Rattle.redlog_run.proofs.BareStatements.{spelled_alone}
 use Rattle.redlog_run.specs.WithoutFormulas as script
 use Rattle.redlog_run.specs.WithoutFormulas.{SpellsFrom, IsWithoutFormula, choice_line, choice_lines, IsAnsweredOnlyWith, EndingIsAnswered, ChoicesAreAnswered, NoneIsRefused}
@@ -84,16 +84,20 @@ record IsChoice (t : StatementTree) (ending : Bool) (lines : List ℕ) (refusal 
   lines_are : lines ≡ choice_line t.printed t.action
   unrefused : refusal ≡ false
 
--- the state after such a statement
+-- the state in which such a statement leaves a state
+abbrev moved : State → ActionTree → State
+moved s (Choose setting) = chosen s (theory_of setting)
+moved s Empty = s
+moved s Ignored = s
+moved s Finish = s
+moved s (Say c) = s
+moved s (Assign x c) = s
+moved s (Assume given) = s
+moved s Retract = with_standing s []
+
+-- the state after it, which has no answers of commands inside
 abbrev after : State → ActionTree → State
-after s (Choose setting) = chosen s (theory_of setting)
-after s Empty = s
-after s Ignored = s
-after s Finish = s
-after s (Say c) = s
-after s (Assign x c) = s
-after s (Assume given) = s
-after s Retract = with_standing s []
+after s a = with_answers (moved (with_answers s []) a) []
 
 module _ (s : State) (limit : ℕ) (printed : Bool) where
   finishing : (a : ActionTree) (next : State) → IsWithoutFormula a → Answers s limit printed a line.Finished next → a ≡ Finish
@@ -134,14 +138,14 @@ module _ (s : State) (limit : ℕ) (piece : List ℕ) (offset : ℕ) (t : Statem
   -- each answer to the piece is this one
   choice : {ending : Bool} {lines : List ℕ} {refusal : Bool} {next : State} → AnswersPiece s limit piece offset ending lines refusal next → IsChoice t ending lines refusal
   choice {next = next} (finished r) =
-      let a = subst (λ (u : StatementTree). Answers s limit u.printed u.action line.Finished next) (same r.statement r.spelled) r.answered in
-      let finish : t.action ≡ Finish = finishing s limit t.printed t.action next w a in
+      let a = subst (λ (u : StatementTree). Answers r.state limit u.printed u.action line.Finished r.after) (same r.statement r.spelled) r.answered in
+      let finish : t.action ≡ Finish = finishing r.state limit t.printed t.action r.after w a in
       record { ending_is = sym (ap ends finish); lines_are = sym (ap (choice_line t.printed) finish); unrefused = refl }
   choice {next = next} (answered answer other r) =
-      let a = subst (λ (u : StatementTree). Answers s limit u.printed u.action answer next) (same r.statement r.spelled) r.answered in
-      let q = silent s limit t.printed t.action answer next w other a in
+      let a = subst (λ (u : StatementTree). Answers r.state limit u.printed u.action answer r.after) (same r.statement r.spelled) r.answered in
+      let q = silent r.state limit t.printed t.action answer r.after w other a in
       record { ending_is = q.0; lines_are = q.1; unrefused = refl }
-  choice {next = next} (refused e other r) = absurd (never s limit piece t h (λ d more k. no_refusal s limit t.printed t.action d w (action_refused s limit t d (spelled_alone piece t h w) k)) e next other r)
+  choice {next = next} (refused e other r) = absurd (never s limit piece t h (λ d more k. no_refusal (plain_state t.action s) limit t.printed t.action d w (action_refused s limit t d (spelled_alone piece t h w) k)) e next other r)
 
 -- a statement inside which no command stands
 abbrev plain : Bool → ActionTree → StatementTree
@@ -149,27 +153,46 @@ plain printed a = record { action = a; printed = printed; inner = alone }
 
 -- and there is one
 module _ (s : State) (limit : ℕ) (piece : List ℕ) (offset : ℕ) where
-  line_said : (printed : Bool) (text : List ℕ) (a : ActionTree) (next : State) → length text < 2 ^ 63 → length text ≤ 33554432 → Spells piece (plain printed a)
-      → ((answer : Line) → IsLine printed text answer → Answers s limit printed a answer next) → AnswersPiece s limit piece offset false (if printed then text ++ newline else []) false next
-  line_said true text a next small short h answers =
-      let bytes = line.Printed (text_of text small) in
-      answered bytes (λ e. absurd (cc)) (record { statement = plain true a; spelled = h; plain = refl; answered = answers bytes (refl, refl, short) })
-  line_said false text a next small short h answers =
-      answered line.Nothing (λ e. absurd (cc)) (record { statement = plain false a; spelled = h; plain = refl; answered = answers line.Nothing refl })
+  no_variables : (a : ActionTree) → IsWithoutFormula a → statement_variables alone a ≡ []
+  no_variables Empty w = refl
+  no_variables Ignored w = refl
+  no_variables Finish w = refl
+  no_variables (Choose setting) w = refl
+  no_variables (Say c) w = absurd w
+  no_variables (Assign x c) w = absurd w
+  no_variables (Assume given) w = absurd w
+  no_variables Retract w = refl
 
-  nothing_said : (printed : Bool) (a : ActionTree) → Spells piece (plain printed a) → Answers s limit printed a line.Nothing s → AnswersPiece s limit piece offset false [] false s
-  nothing_said printed a h answers = answered line.Nothing (λ e. absurd (cc)) (record { statement = plain printed a; spelled = h; plain = refl; answered = answers })
+  -- no command is answered before it
+  abbrev before : State
+  before = with_answers s []
+
+  reached : (printed : Bool) (a : ActionTree) → IsWithoutFormula a → IsReached (plain printed a) s limit before
+  reached printed a w = record { answers = []; names = s.names; given = (refl, sym (ap (fold with_name s.names) (no_variables a w))); is = refl }
+
+  line_said : (printed : Bool) (text : List ℕ) (a : ActionTree) → IsWithoutFormula a → length text < 2 ^ 63 → length text ≤ 33554432 → Spells piece (plain printed a)
+      → ((answer : Line) → IsLine printed text answer → Answers before limit printed a answer (moved before a)) → AnswersPiece s limit piece offset false (if printed then text ++ newline else []) false (after s a)
+  line_said true text a w small short h answers =
+      let bytes = line.Printed (text_of text small) in
+      answered bytes (λ e. absurd (cc)) (record { statement = plain true a; spelled = h; state = before; reached = reached true a w; after = moved before a; answered = answers bytes (refl, refl, short); left = refl })
+  line_said false text a w small short h answers =
+      answered line.Nothing (λ e. absurd (cc)) (record { statement = plain false a; spelled = h; state = before; reached = reached false a w; after = moved before a; answered = answers line.Nothing refl; left = refl })
+
+  nothing_said : (printed : Bool) (a : ActionTree) → IsWithoutFormula a → Spells piece (plain printed a) → Answers before limit printed a line.Nothing (moved before a) → AnswersPiece s limit piece offset false [] false (after s a)
+  nothing_said printed a w h answers =
+      answered line.Nothing (λ e. absurd (cc)) (record { statement = plain printed a; spelled = h; state = before; reached = reached printed a w; after = moved before a; answered = answers; left = refl })
 
   made : (printed : Bool) (a : ActionTree) → Spells piece (plain printed a) → IsWithoutFormula a → AnswersPiece s limit piece offset (ends a) (choice_line printed a) false (after s a)
-  made printed Empty h w = nothing_said printed Empty h (refl, refl)
-  made printed Ignored h w = nothing_said printed Ignored h (refl, refl)
-  made printed Finish h w = finished (record { statement = plain printed Finish; spelled = h; plain = refl; answered = (refl, refl) })
+  made printed Empty h w = nothing_said printed Empty w h (refl, refl)
+  made printed Ignored h w = nothing_said printed Ignored w h (refl, refl)
+  made printed Finish h w =
+      finished (record { statement = plain printed Finish; spelled = h; state = before; reached = reached printed Finish w; after = before; answered = (refl, refl); left = refl })
   made printed (Choose setting) h w =
-      let c = theory_of setting in line_said printed (context_text c) (Choose setting) (chosen s c) (context_small c) (context_short c) h (λ answer l. (l, refl))
+      let c = theory_of setting in line_said printed (context_text c) (Choose setting) w (context_small c) (context_short c) h (λ answer l. (l, refl))
   made printed (Say c) h w = absurd w
   made printed (Assign x c) h w = absurd w
   made printed (Assume given) h w = absurd w
-  made printed Retract h w = line_said printed (codes "{}") Retract (with_standing s []) (omega arith) (omega arith) h (λ answer l. (l, refl))
+  made printed Retract h w = line_said printed (codes "{}") Retract w (omega arith) (omega arith) h (λ answer l. (l, refl))
 
 -- ---- all pieces
 

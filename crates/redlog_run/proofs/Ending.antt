@@ -11,7 +11,7 @@ use Rattle.session_meaning.specs.State.{State}
 use Rattle.session_meaning.specs.Reply.{Answers, RefusesAction}
 use Rattle.redlog_run.specs.Run.{AnswersPiece, finished, answered, refused, piece_bytes, SpellsFinish, HasEnd, here, later}
 use Rattle.redlog_run.specs.WithoutFormulas.{IsWithoutFormula}
-use Rattle.redlog_run.proofs.Unrefused.{never, action_refused}
+use Rattle.redlog_run.proofs.Unrefused.{plain_state, never, action_refused}
 use Rattle.redlog_run.proofs.BareStatements.{spelled_alone}
 
 -- ---- what a piece spells that ends a script or doesn't
@@ -34,15 +34,15 @@ unrefused s limit printed a e same r = subst (λ b. RefusesAction s limit printe
 
 module _ (s : State) (limit : ℕ) (piece : List ℕ) (offset : ℕ) where
   pub spells_finish : {lines : List ℕ} {refusal : Bool} {next : State} → AnswersPiece s limit piece offset true lines refusal next → SpellsFinish piece
-  spells_finish {next = next} (finished r) = (r.statement, r.spelled, finishes s limit r.statement.printed r.statement.action next r.answered)
+  spells_finish {next = next} (finished r) = (r.statement, r.spelled, finishes r.state limit r.statement.printed r.statement.action r.after r.answered)
 
   pub spells_no_finish : {lines : List ℕ} {refusal : Bool} {next : State} → AnswersPiece s limit piece offset false lines refusal next → ¬ (SpellsFinish piece)
   spells_no_finish {next = next} (answered answer other r) f =
       let same : r.statement ≡ f.0 = spells_once piece r.statement f.0 r.spelled f.1 in
-      other (only_finished s limit r.statement.printed r.statement.action answer next (ap (λ (t : StatementTree). t.action) same ∙ f.2) r.answered)
+      other (only_finished r.state limit r.statement.printed r.statement.action answer r.after (ap (λ (t : StatementTree). t.action) same ∙ f.2) r.answered)
   spells_no_finish {next = next} (refused cause other r) f =
       let plain = spelled_alone piece f.0 f.1 (subst IsWithoutFormula (sym f.2) tt) in
-      never s limit piece f.0 f.1 (λ d more k. unrefused s limit (f.0).printed (f.0).action d f.2 (action_refused s limit f.0 d plain k)) cause next other r
+      never s limit piece f.0 f.1 (λ d more k. unrefused (plain_state (f.0).action s) limit (f.0).printed (f.0).action d f.2 (action_refused s limit f.0 d plain k)) cause next other r
 
 -- ---- ends of a script
 

@@ -1,22 +1,45 @@
 -- A piece that spells a statement which has no cause of a refusal is not refused.
-use Rattle.std.proofs.Common.{◌≡◌, ◌≢◌, ⊎_elim, ℕ, Bool, true, false, ◌||◌, List, ◌++◌, refl, sym, ap, ◌∙◌, subst}
+use Rattle.std.proofs.Common.{◌≡◌, ◌≢◌, ⊎_elim, ℕ, Bool, true, false, ◌||◌, List, [], ◌++◌, refl, ap, ap₂, ◌∙◌, subst}
 use Rattle.std.specs.Prelude.{Err}
-use Rattle.qe_syntax.specs.Holes.{alone, is_some_command}
-use Rattle.statement_syntax.specs.Statements.{StatementTree}
+use Rattle.formula_meaning.specs.Tree.{Tree}
+use Rattle.qe_syntax.specs.Holes.{Nests, alone}
+use Rattle.statement_syntax.specs.Statements.{ActionTree, StatementTree}
 use Rattle.redlog_reader.specs.Statement.{Spells}
 use Rattle.redlog_tokens.specs.declared.token.ReadError.TheVariants as reading
 use Rattle.redlog_reader.proofs.Whole.{spells_once, not_unread}
 use Rattle.session_meaning.specs.declared.line.StatementError.{StatementError}
 use Rattle.session_meaning.specs.declared.line.StatementError.TheVariants as error
-use Rattle.session_meaning.specs.State.{State}
-use Rattle.session_meaning.specs.Reply.{RefusesAction, RefusesStatement, SpellsRefused, Reply}
+use Rattle.session_meaning.specs.State.{State, with_names, with_answers}
+use Rattle.session_meaning.specs.Inside.{GivesAll, SomeStops}
+use Rattle.session_meaning.specs.Reply.{with_variables, IsReached, RefusesAction, RefusesStatement, SpellsRefused, Reply}
 use Rattle.redlog_run.specs.Run.{AnswersPiece, finished, answered, refused, Run, over, last, then, RunTo, begin, on, piece_bytes}
 use Rattle.redlog_run.specs.Unrefused.{IsUnrefusedPiece, IsUnrefused}
 use Rattle.redlog_run.specs.NoRefusal.{UnrefusedScriptsHaveNoRefusal}
 
--- a statement inside which no command stands is refused for its action
-pub action_refused : (s : State) (limit : ℕ) (t : StatementTree) (e : StatementError) → t.inner ≡ alone → RefusesStatement s limit t e → RefusesAction s limit t.printed t.action e
-action_refused s limit t e plain r = ⊎_elim (λ k. k.1) (λ k. let none : false ≡ true = ap is_some_command (sym plain) ∙ k.0 in absurd (cc)) r
+-- ---- statements inside which no command stands
+
+-- the state in which the variables of such a statement have their numbers, without answers
+abbrev pub plain_state : ActionTree → State → State
+plain_state a s = with_answers (with_variables alone a s) []
+
+none_given : (ns : Nests) (a : ActionTree) (s : State) (limit : ℕ) (answers : List Tree) (names : List (List ℕ)) → ns ≡ alone → GivesAll ns (with_variables ns a s) limit answers names
+    → (answers ≡ []) × (names ≡ (with_variables alone a s).names)
+none_given ns a s limit answers names plain h = subst (λ (ms : Nests). GivesAll ms (with_variables ms a s) limit answers names) plain h
+
+-- it is the one that is reached
+pub plain_reached : (s : State) (limit : ℕ) (t : StatementTree) (reached : State) → t.inner ≡ alone → IsReached t s limit reached → reached ≡ plain_state t.action s
+plain_reached s limit t reached plain r =
+    let none = none_given t.inner t.action s limit r.answers r.names plain r.given in
+    r.is ∙ ap₂ (λ ns ts. with_answers (with_names s ns) ts) none.1 none.0
+
+none_stops : (ns : Nests) (a : ActionTree) (s : State) (limit : ℕ) (e : StatementError) → ns ≡ alone → SomeStops ns (with_variables ns a s) limit e → ⊥
+none_stops ns a s limit e plain h = subst (λ (ms : Nests). SomeStops ms (with_variables ms a s) limit e) plain h
+
+-- so the statement is refused for its action
+pub action_refused : (s : State) (limit : ℕ) (t : StatementTree) (e : StatementError) → t.inner ≡ alone → RefusesStatement s limit t e → RefusesAction (plain_state t.action s) limit t.printed t.action e
+action_refused s limit t e plain r =
+    ⊎_elim (λ k. absurd (none_stops t.inner t.action s limit e plain k))
+    (λ k. subst (λ (z : State). RefusesAction z limit t.printed t.action e) (plain_reached s limit t k.0 plain k.1) k.2) r
 
 module _ (s : State) (limit : ℕ) (piece : List ℕ) (t : StatementTree) (h : Spells piece t)
     (none : (e : StatementError) → e ≢ error.Memory → RefusesStatement s limit t e → ⊥) where
@@ -27,7 +50,7 @@ module _ (s : State) (limit : ℕ) (piece : List ℕ) (t : StatementTree) (h : S
   never error.Long next other r = not_unread piece t reading.Long (λ p. absurd (cc)) h r.1
   never error.Lexical next other r = not_unread piece t reading.Lexical (λ p. absurd (cc)) h r.1
   never error.Nesting next other r = not_unread piece t reading.Nesting (λ p. absurd (cc)) h r.1
-  never error.Syntax next other r = ⊎_elim (not_unread piece t reading.Syntax (λ p. absurd (cc)) h) (refused_never error.Syntax other) r.1
+  never error.Syntax next other r = not_unread piece t reading.Syntax (λ p. absurd (cc)) h r.1
   never error.Memory next other r = other refl
   never e next other r = refused_never e other r.1
 

@@ -10,8 +10,8 @@ use Rattle.redlog_printer.specs.Text.{tree_text}
 use Rattle.session_meaning.specs.declared.line.StatementError.{StatementError}
 use Rattle.session_meaning.specs.declared.line.StatementError.TheVariants as error
 use Rattle.session_meaning.specs.State.{State}
-use Rattle.session_meaning.specs.Meaning.{Meaning, numbered, meaning}
-use Rattle.session_meaning.specs.Causes.{HasLongLine, IsCause, MayBeCause}
+use Rattle.session_meaning.specs.Meaning.{Meaning, meaning}
+use Rattle.session_meaning.specs.Causes.{IsFirst, HasLongLine, IsCause, MayBeCause}
 use Rattle.point_queries.specs.FromCommandTools.{use_of}
 use Rattle.session_commands.specs.Accepted.{TruthIsNeverRefused}
 
@@ -58,5 +58,4 @@ module _ (s : State) (limit : ℕ) (printed : Bool) where
 
 pub truth_is_never_refused : TruthIsNeverRefused
 truth_is_never_refused printed s limit e other r =
-    let z = numbered of_true s in
-    ⊎_elim (λ k. ⊎_elim (no_cause z limit printed e) (no_other z limit printed e) k.1.applies) (λ k. let none : false ≡ true = k.0 in absurd (cc)) r
+    ⊎_elim (λ stop. stop) (λ k. let h : IsFirst of_true k.0 limit (use_of None printed) e = k.2 in ⊎_elim (no_cause k.0 limit printed e) (no_other k.0 limit printed e) h.applies) r

@@ -5,11 +5,8 @@ use Rattle.std.specs.Prelude.{Result, Ok, Err, IfOk, OnOk, IfErr, OnErr}
 use Rattle.statement_syntax.specs.Statements.{CommandTree, ActionTree, Empty, Ignored, Finish, Choose, Say, Assign, Assume, Retract, StatementTree, Echo}
 use Rattle.statement_syntax.specs.declared.statement.Statement as written
 use Rattle.statement_syntax.specs.CodeTrees.{statement_tree}
-use Rattle.statement_syntax.specs.PlainStatements.{plain_statement}
-use Rattle.statement_syntax.specs.Writable.{IsWritable, IsWritableAction}
-use Rattle.statement_syntax.proofs.Plain.{plain_statement_is}
 use Rattle.statement_syntax.specs.Inner.{WithInner, about, command_in, command_of}
-use Rattle.qe_syntax.specs.Holes.{InnerTree, Nest, Nests, nest, alone, beside, command_alone, is_some_command}
+use Rattle.qe_syntax.specs.Holes.{InnerTree, Nest, Nests, nest, alone, beside, command_alone}
 use Rattle.qe_syntax.specs.Holes as inside
 use Rattle.redlog_reader.specs.Grammar.{Written, SpellsResult, resulting, SpellsAction, assign, SpellsStatement, nothing, acting}
 use Rattle.redlog_tokens.specs.declared.terminal.Terminal.{Terminal}
@@ -17,13 +14,15 @@ use Rattle.redlog_reader.specs.Statement.{Spells}
 use Rattle.formula_meaning.specs.Tree.{tree_distinct}
 use Rattle.session_meaning.specs.declared.TheConstants.{MOST_SUBFORMULAS}
 use Rattle.session_meaning.specs.declared.line.Line.{Line}
-use Rattle.session_meaning.specs.State.{State, with_names}
+use Rattle.session_meaning.specs.State.{State, with_names, with_answers}
+use Rattle.session_meaning.specs.Inside.{inner_use, inner_meaning, Stops, SomeStops}
 use Rattle.point_queries.specs.FromCommandTools.{use_of, Refuses, IsStopped, IsFormulaAnswer, IsQueryAnswer, BindsFormula}
 use Rattle.session_meaning.specs.Meaning.{Answer, OfFormula, OfText, meaning, assumption_meaning, numbered, Meaning, MayGive}
 use Rattle.session_meaning.specs.FormulaGiven.{GivesFormula}
 use Rattle.session_meaning.specs.Uses.{Use, formula_line}
 use Rattle.session_meaning.specs.Causes.{IsFirst}
-use Rattle.session_meaning.specs.Reply.{Tells, AnswersSaid, Answers, RefusesAction, SpellsRefused, Reply}
+use Rattle.session_meaning.specs.Reply.{Tells, AnswersSaid, Answers, with_variables, RefusesAction, RefusesStatement, SpellsRefused, Reply}
+use Rattle.session_commands.specs.Through.{IsStatementAnswer, IsStatementStopped}
 use Rattle.session_meaning.specs.declared.line.StatementError.{StatementError}
 use Rattle.session_meaning.specs.declared.line.StatementError.TheVariants as error
 
@@ -83,9 +82,9 @@ at_most (suc a) (suc b) h = let k = at_most a b (λ l. h (omega (arith, l))) in 
 
 -- an assignment, for a command that is known to be this one
 pub formula_assigned : {E : Type 0} (r : Result Line E) (a : ActionTree) (x : List ℕ) (c : CommandTree) (s next : State) (limit : ℕ) (printed : Bool) → a ≡ Assign x c
-    → IfOk r (λ answer. IsFormulaAnswer (numbered (meaning c) s) limit (use_of (Some x) printed) c answer next) → IfOk r (λ answer. Answers s limit printed a answer next)
+    → IfOk r (λ answer. IsFormulaAnswer (numbered (meaning c) s) limit (use_of (Some x) printed) c answer next) → IfOk r (λ answer. Answers (with_variables alone a s) limit printed a answer next)
 formula_assigned (Ok answer) a x c s next limit printed e h =
-    subst (λ b. Answers s limit printed b answer next) (sym e)
+    subst (λ b. Answers (with_variables alone b s) limit printed b answer next) (sym e)
     (record { accepted = h.accepted; formula = h.formula; allowed = h.allowed; names = h.names; named = h.named; line = h.line; small = at_most MOST_SUBFORMULAS (tree_distinct h.formula) h.small; binds = h.after })
 formula_assigned (Err e) a x c s next limit printed p h = tt
 
@@ -119,38 +118,57 @@ refused_as r d c s limit u e h = subst (λ x. IfErr r (Refuses (numbered (meanin
 
 -- a command that is the statement
 pub say_answered : {E : Type 0} (r : Result Line E) (a : ActionTree) (c : CommandTree) (s next : State) (limit : ℕ) (printed : Bool) → a ≡ Say c → IfOk r (λ answer. AnswersSaid (meaning c) (numbered (meaning c) s) limit printed answer next)
-    → IfOk r (λ answer. Answers s limit printed a answer next)
-say_answered r a c s next limit printed e h = subst (λ b. IfOk r (λ answer. Answers s limit printed b answer next)) (sym e) h
+    → IfOk r (λ answer. Answers (with_variables alone a s) limit printed a answer next)
+say_answered r a c s next limit printed e h = subst (λ b. IfOk r (λ answer. Answers (with_variables alone b s) limit printed b answer next)) (sym e) h
 
 -- and one that is refused
-pub say_refused : {T : Type 0} (r : Result T StatementError) (t : StatementTree) (c : CommandTree) (s : State) (limit : ℕ) → t.action ≡ Say c → IfErr r (Refuses (numbered (meaning c) s) limit (use_of None t.printed) c)
-    → IfErr r (IsStopped s limit t)
-say_refused (Ok answer) t c s limit e h = tt
-say_refused (Err d) t c s limit e h = λ other. subst (λ a. RefusesAction s limit t.printed a d) (sym e) (h other)
+pub say_refused : {T : Type 0} (r : Result T StatementError) (a : ActionTree) (c : CommandTree) (s : State) (limit : ℕ) (printed : Bool) → a ≡ Say c → IfErr r (Refuses (numbered (meaning c) s) limit (use_of None printed) c)
+    → IfErr r (IsStopped (with_variables alone a s) limit printed a)
+say_refused (Ok answer) a c s limit printed e h = tt
+say_refused (Err d) a c s limit printed e h = λ other. subst (λ b. RefusesAction (with_variables alone b s) limit printed b d) (sym e) (h other)
+
+-- the same of an assignment
+pub assign_refused : {T : Type 0} (r : Result T StatementError) (a : ActionTree) (x : List ℕ) (c : CommandTree) (s : State) (limit : ℕ) (printed : Bool) → a ≡ Assign x c → IfErr r (Refuses (numbered (meaning c) s) limit (use_of (Some x) printed) c)
+    → IfErr r (IsStopped (with_variables alone a s) limit printed a)
+assign_refused (Ok answer) a x c s limit printed e h = tt
+assign_refused (Err d) a x c s limit printed e h = λ other. subst (λ b. RefusesAction (with_variables alone b s) limit printed b d) (sym e) (h other)
 
 -- ---- the reply
 
 -- the words of what is wrong with the text are no causes of a command
-no_word : (e : StatementError) → ((m : Meaning) (s : State) (limit : ℕ) (u : Use) → ¬ (IsFirst m s limit u e)) → (s : State) (limit : ℕ) (printed : Bool) (a : ActionTree) → ¬ (RefusesAction s limit printed a e)
-no_word e none s limit printed Empty h = h
-no_word e none s limit printed Ignored h = h
-no_word e none s limit printed Finish h = h
-no_word e none s limit printed (Choose w) h = h
-no_word e none s limit printed (Say c) h = none (meaning c) (numbered (meaning c) s) limit (use_of None printed) h
-no_word e none s limit printed (Assign x c) h = none (meaning c) (numbered (meaning c) s) limit (use_of (Some x) printed) h
-no_word e none s limit printed (Assume given) h = none (assumption_meaning given) (numbered (assumption_meaning given) s) limit (use_of None printed) h
-no_word e none s limit printed Retract h = h
+module _ (e : StatementError) (none : (m : Meaning) (s : State) (limit : ℕ) (u : Use) → ¬ (IsFirst m s limit u e)) (limit : ℕ) where
+  no_word : (s : State) (printed : Bool) (a : ActionTree) → ¬ (RefusesAction s limit printed a e)
+  no_word s printed Empty h = h
+  no_word s printed Ignored h = h
+  no_word s printed Finish h = h
+  no_word s printed (Choose w) h = h
+  no_word s printed (Say c) h = none (meaning c) s limit (use_of None printed) h
+  no_word s printed (Assign x c) h = none (meaning c) s limit (use_of (Some x) printed) h
+  no_word s printed (Assume given) h = none (assumption_meaning given) s limit (use_of None printed) h
+  no_word s printed Retract h = h
 
-module _ (s next : State) (limit : ℕ) (piece : List ℕ) (t : StatementTree) (spelled : Spells piece t) (plain : t.inner ≡ alone) where
-  spelled_refused : (e : StatementError) → RefusesAction s limit t.printed t.action e → SpellsRefused s limit piece e
-  spelled_refused e h = record { statement = t; spelled = spelled; refused = inl (plain, h) }
+  -- nor of one inside a formula
+  mutual
+    no_stop : (n : Nest) (s : State) → ¬ (Stops n s limit e)
+    no_stop (nest c ns) s h = ⊎_elim (no_stops ns s) (λ k. none (inner_meaning c) (with_answers (with_names s k.1) k.0) limit inner_use k.3) h
 
-  reply_to_stop : (e : StatementError) → next ≡ s → IsStopped s limit t e → Reply s limit piece (Err e) next
+    no_stops : (ns : Nests) (s : State) → ¬ (SomeStops ns s limit e)
+    no_stops alone s h = h
+    no_stops (beside n ns) s h = ⊎_elim (no_stop n s) (λ k. no_stops ns (with_names s k.1) k.3) h
+
+  no_refusal : (s : State) (t : StatementTree) → ¬ (RefusesStatement s limit t e)
+  no_refusal s t h = ⊎_elim (no_stops t.inner (with_variables t.inner t.action s)) (λ k. no_word k.0 t.printed t.action k.2) h
+
+module _ (s next : State) (limit : ℕ) (piece : List ℕ) (t : written.Statement) (spelled : Spells piece (statement_tree t)) where
+  spelled_refused : (e : StatementError) → RefusesStatement s limit (statement_tree t) e → SpellsRefused s limit piece e
+  spelled_refused e h = record { statement = statement_tree t; spelled = spelled; refused = h }
+
+  reply_to_stop : (e : StatementError) → next ≡ s → IsStatementStopped t s limit e → Reply s limit piece (Err e) next
   reply_to_stop error.Memory p h = tt
-  reply_to_stop error.Syntax p h = absurd (no_word error.Syntax (λ m s l u k. ⊎_elim (λ x. x) (λ x. x) k.applies) s limit t.printed t.action (h (λ q. absurd (cc (q)))))
-  reply_to_stop error.Long p h = absurd (no_word error.Long (λ m s l u k. ⊎_elim (λ x. x) (λ x. x) k.applies) s limit t.printed t.action (h (λ q. absurd (cc (q)))))
-  reply_to_stop error.Lexical p h = absurd (no_word error.Lexical (λ m s l u k. ⊎_elim (λ x. x) (λ x. x) k.applies) s limit t.printed t.action (h (λ q. absurd (cc (q)))))
-  reply_to_stop error.Nesting p h = absurd (no_word error.Nesting (λ m s l u k. ⊎_elim (λ x. x) (λ x. x) k.applies) s limit t.printed t.action (h (λ q. absurd (cc (q)))))
+  reply_to_stop error.Syntax p h = absurd (no_refusal error.Syntax (λ m s l u k. ⊎_elim (λ x. x) (λ x. x) k.applies) limit s (statement_tree t) (h (λ q. absurd (cc (q)))))
+  reply_to_stop error.Long p h = absurd (no_refusal error.Long (λ m s l u k. ⊎_elim (λ x. x) (λ x. x) k.applies) limit s (statement_tree t) (h (λ q. absurd (cc (q)))))
+  reply_to_stop error.Lexical p h = absurd (no_refusal error.Lexical (λ m s l u k. ⊎_elim (λ x. x) (λ x. x) k.applies) limit s (statement_tree t) (h (λ q. absurd (cc (q)))))
+  reply_to_stop error.Nesting p h = absurd (no_refusal error.Nesting (λ m s l u k. ⊎_elim (λ x. x) (λ x. x) k.applies) limit s (statement_tree t) (h (λ q. absurd (cc (q)))))
   reply_to_stop error.Unbound p h = (p, spelled_refused error.Unbound (h (λ q. absurd (cc (q)))))
   reply_to_stop error.FormulaAsTerm p h = (p, spelled_refused error.FormulaAsTerm (h (λ q. absurd (cc (q)))))
   reply_to_stop error.Nonlinear p h = (p, spelled_refused error.Nonlinear (h (λ q. absurd (cc (q)))))
@@ -167,25 +185,14 @@ module _ (s next : State) (limit : ℕ) (piece : List ℕ) (t : StatementTree) (
   reply_to_stop error.Bindings p h = (p, spelled_refused error.Bindings (h (λ q. absurd (cc (q)))))
   reply_to_stop error.Text p h = (p, spelled_refused error.Text (h (λ q. absurd (cc (q)))))
 
-  pub reply_to : (r : Result Line StatementError) → IfOk r (λ answer. Answers s limit t.printed t.action answer next) → IfErr r (IsStopped s limit t) → OnErr r (next ≡ s) → Reply s limit piece r next
-  reply_to (Ok answer) a b k = record { statement = t; spelled = spelled; plain = plain; answered = a }
+  pub reply_to : (r : Result Line StatementError) → IfOk r (λ answer. IsStatementAnswer t s limit answer next) → IfErr r (IsStatementStopped t s limit) → OnErr r (next ≡ s) → Reply s limit piece r next
+  reply_to (Ok answer) a b k = record {
+    statement = statement_tree t;
+    spelled = spelled;
+    state = a.through.state;
+    reached = a.through.reached;
+    after = a.after;
+    answered = a.through.answered;
+    left = a.left;
+  }
   reply_to (Err e) a b k = reply_to_stop e k b
-
--- a statement inside which a command stands
-pub reply_to_inner : (s : State) (limit : ℕ) (piece : List ℕ) (t : StatementTree) → Spells piece t → is_some_command t.inner ≡ true → Reply s limit piece (Err error.Syntax) s
-reply_to_inner s limit piece t spelled some = (refl, inr (record { statement = t; spelled = spelled; refused = inr (some, refl) }))
-
-none_alone : (ns : Nests) → is_some_command ns ≡ false → ns ≡ alone
-none_alone alone e = refl
-none_alone (beside n ns) e = absurd (let no : ⊥ = cc in no)
-
--- a statement of the code inside which none stands is what it is without names of answers
-module _ (t : written.Statement) (none : is_some_command (statement_tree t).inner ≡ false) where
-  pub same : statement_tree t ≡ plain_statement t
-  same = plain_statement_is t (none_alone (statement_tree t).inner none)
-
-  pub spelled_plainly : (piece : List ℕ) → Spells piece (statement_tree t) → Spells piece (plain_statement t)
-  spelled_plainly piece h = subst (Spells piece) same h
-
-  pub writable_plainly : IsWritable (statement_tree t) → IsWritableAction (plain_statement t).action
-  writable_plainly h = let w : IsWritable (plain_statement t) = subst IsWritable same h in w.action

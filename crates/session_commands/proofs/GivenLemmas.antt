@@ -25,11 +25,11 @@ use Rattle.redlog_printer.specs.Text.{tree_text}
 use Rattle.point_queries.specs.FromCommandTools.{use_of, Refuses, state_with, IsFormulaAnswer, forms_refusal, IsLongText, LineFault, static_refusal}
 use Rattle.session_commands.specs.Steps.{given_trees, form_of, command_of, HasUnwantedQuantifier, IsReady, IsUnready, MayBind, TargetFault, HasFewBytes, IsForSize, IsUnfit, IsUnspared, MayAsk}
 use Rattle.point_queries.specs.FromProblemReading.{AreNumbered, AreReadable, HasNoEarlier, AreUnread}
-use Rattle.session_meaning.specs.Meaning.{meaning, numbered, Meaning, Determines, IsAllowed}
+use Rattle.session_meaning.specs.Meaning.{meaning, numbered, Meaning, Determines, IsAllowed, MayGive}
 use Rattle.formula_resolving.specs.declared.error.StaticError.{StaticError}
 use Rattle.formula_resolving.specs.declared.error.StaticError.TheVariants as static
 use Rattle.session_meaning.specs.Uses.{IsDirectUse, Use, HasManyNodes, formula_line}
-use Rattle.session_meaning.specs.Causes.{HasNoRoom, IsTooLarge, IsCause, MayBeCause, HasNone, IsFirst}
+use Rattle.session_meaning.specs.Causes.{HasNoRoom, IsTooLarge, IsCause, MayBeCause, HasNone, IsFirst, IsAccepted}
 use Rattle.session_meaning.specs.Reply.{IsLine}
 use Rattle.session_meaning.specs.Words.{before}
 use Rattle.point_queries.specs.FromSharedForms.{IsConditionFor, IsConditionByCases, IsFormOf, IsCleanedAs, IsPrenexAs, IsSimplifiedAs, FormsError, PrenexFault, FormFault}
@@ -42,7 +42,7 @@ use Rattle.session_meaning.specs.declared.line.StatementError.{StatementError}
 use Rattle.session_meaning.specs.declared.line.StatementError.TheVariants as error
 use Rattle.session_commands.specs.declared.formulas.FormCommand.{FormCommand}
 use Rattle.session_commands.specs.declared.formulas.FormCommand.TheVariants as wanted
-use Rattle.session_meaning.specs.State.{State, with_names}
+use Rattle.session_meaning.specs.State.{State, with_names, known}
 use Rattle.session_meaning.specs.Assumptions.{assumed, Hold}
 use Rattle.session_meaning.specs.FormulaAnswers.{negation_normal_of, IsPrenexAnswer, IsSimplification, IsCondition, IsCleanAnswer}
 use Rattle.point_queries.specs.FromSessionState.{IsSessionFormula, IsSound}
@@ -191,16 +191,16 @@ module _ (w : FormCommand) (f : FormulaTree) (s : State) (numbers : AreNumbered 
 -- ---- what is given
 
 -- the negation normal form has the truth of the formula
-negated_truth : (s : State) (f : FormulaTree) → Every (IsNormal s.context) (resolve s.context s.bound s.names f) → (p : Point ℕ) → Of s.context p
-    → TrueAt s.context (resolve s.context s.bound s.names f) p ↔ TrueAt s.context (negation_normal_of s f) p
+negated_truth : (s : State) (f : FormulaTree) → Every (IsNormal s.context) (resolve s.context (known s) s.names f) → (p : Point ℕ) → Of s.context p
+    → TrueAt s.context (resolve s.context (known s) s.names f) p ↔ TrueAt s.context (negation_normal_of s f) p
 negated_truth s f normal p of =
-    let t = resolve s.context s.bound s.names f in
+    let t = resolve s.context (known s) s.names f in
     (normal_truths s.context t p (normal_inside s.context t normal) of).0
 
 -- the formula t is given, where it is the wanted form of the resolved formula
 module _ (f : FormulaTree) (s : State) (limit : ℕ) (t : Tree) where
   abbrev resolution : Tree
-  resolution = resolve s.context s.bound s.names f
+  resolution = resolve s.context (known s) s.names f
 
   abbrev Given : FormCommand → Type 0
   Given w = IsFormOf s.context (length s.names) (assumed s (given_trees w)) limit (form_of w) resolution t
@@ -227,7 +227,7 @@ module _ (f : FormulaTree) (s : State) (limit : ℕ) (t : Tree) where
   -- ---- simplified
 
   module _ (gs : FormulaTrees) (readable : AreReadable s (also f gs)) (sound : IsSound s) (numbers : AreNumbered s.names (also f gs)) (own : IsSessionFormula s.context (length s.names) resolution) where
-    same_here : (p : NamedPoint) → Of s.context p → written.TrueAt (bound_truth s.context s.bound s.names) s.context f p ↔ TrueAt s.context resolution (at_names s.names p)
+    same_here : (p : NamedPoint) → Of s.context p → written.TrueAt (bound_truth s.context (known s) s.names) s.context f p ↔ TrueAt s.context resolution (at_names s.names p)
     same_here p of = truth_as_written s f (numbers.0) sound.names_once (readable.0) p of
 
     assumptions_say : (p : NamedPoint) → Of s.context p → Hold s gs p → EachOf (λ k. Says k (at_names s.names p)) (assumed s gs)
@@ -376,7 +376,7 @@ memory_other : ¬ (IsForSize error.Memory)
 memory_other x = ⊎_elim (λ e. absurd (cc (e))) (λ e. absurd (cc (e))) x
 
 module _ (w : FormCommand) (f : FormulaTree) (s : State) (numbers : AreNumbered s.names (also f (given_trees w))) (limit : ℕ) (target : Option (List ℕ)) (printed : Bool) (t : Tree)
-    (given : IsFormOf s.context (length s.names) (assumed s (given_trees w)) limit (form_of w) (resolve s.context s.bound s.names f) t) (h : IsReady s w f) where
+    (given : IsFormOf s.context (length s.names) (assumed s (given_trees w)) limit (form_of w) (resolve s.context (known s) s.names f) t) (h : IsReady s w f) where
   abbrev given_use : Use
   given_use = use_of target printed
 
@@ -404,7 +404,7 @@ module _ (w : FormCommand) (f : FormulaTree) (s : State) (numbers : AreNumbered 
       then_clear (meaning (command_of w f)) s limit given_use error.Bindings error.Text refl clear
       (λ k. elim k [ inl r ↦ b.room r | inr m ↦ b.small (subst (IsTooLarge target) (one f s limit t w given m.0 m.1) m.2) ])
 
-  module _ (sound : IsSound s) (own : IsSessionFormula s.context (length s.names) (resolve s.context s.bound s.names f)) (names : List (List ℕ)) (named : (meaning (command_of w f)).names s names) where
+  module _ (sound : IsSound s) (own : IsSessionFormula s.context (length s.names) (resolve s.context (known s) s.names f)) (names : List (List ℕ)) (named : (meaning (command_of w f)).names s names) where
     pub refused_line : MayAsk s limit given_use w f → MayBind s.bound target t → (e : StatementError) → LineFault printed (formula_line target names t) e
         → (e ≡ error.Text → HasFewBytes target ⊎ (text_limit < length (tree_text names t))) → Fails e
     refused_line ask b e (inl k) few = subst Fails (sym k.0) (failed error.Text (clear_to_text b) (too_long f s limit t sound own names given_use b.room k.1.0 k.1.1 (few k.0) w given ask named))
@@ -418,12 +418,20 @@ module _ (w : FormCommand) (f : FormulaTree) (s : State) (numbers : AreNumbered 
         short (p, subst (λ u. text_limit < length (formula_line target names u)) (one f s limit t w given long.formula long.determined) here)
     not_long short (p, inr own_text) = no_own_text w f s limit own_text
 
+    -- no cause of a refusal applies
+    pub is_accepted : MayBind s.bound target t → ¬ (IsLongText printed (formula_line target names t)) → IsAccepted (meaning (command_of w f)) s limit given_use
+    is_accepted b short = then_clear (meaning (command_of w f)) s limit given_use error.Text error.Memory refl (clear_to_text b) (not_long short)
+
+    -- and the formula is one that the command may give
+    pub may_give : Every IsAtomInLimit t → MayGive (meaning (command_of w f)).answer s limit t
+    may_give fits = (gives f s limit t w h sound own numbers given, fits)
+
     pub is_given : Every IsAtomInLimit t → MayBind s.bound target t → (answer : Line) → IsLine printed (formula_line target names t) answer
         → ¬ (IsLongText printed (formula_line target names t)) → IsFormulaAnswer s limit (use_of target printed) (command_of w f) answer (state_with (with_names s names) target t)
     is_given fits b answer line short = record {
-      accepted = then_clear (meaning (command_of w f)) s limit given_use error.Text error.Memory refl (clear_to_text b) (not_long short);
+      accepted = is_accepted b short;
       formula = t;
-      allowed = (gives f s limit t w h sound own numbers given, fits);
+      allowed = may_give fits;
       names = names;
       named = named;
       line = line;
@@ -434,8 +442,8 @@ module _ (w : FormCommand) (f : FormulaTree) (s : State) (numbers : AreNumbered 
 same_names : (s : State) (t : Tree) (names : List (List ℕ)) → names ≡ s.names → IsSessionFormula s.context (length s.names) t → IsSessionFormula s.context (length names) t
 same_names s t names e h = subst (λ ns. IsSessionFormula s.context (length ns) t) (sym e) h
 
-pub given_formula : (w : FormCommand) (f : FormulaTree) (s : State) (limit : ℕ) (t : Tree) (names : List (List ℕ)) → IsFormOf s.context (length s.names) (assumed s (given_trees w)) limit (form_of w) (resolve s.context s.bound s.names f) t
-    → (meaning (command_of w f)).names s names → IsSessionFormula s.context (length s.names) (resolve s.context s.bound s.names f) → IsSessionFormula s.context (length names) t
+pub given_formula : (w : FormCommand) (f : FormulaTree) (s : State) (limit : ℕ) (t : Tree) (names : List (List ℕ)) → IsFormOf s.context (length s.names) (assumed s (given_trees w)) limit (form_of w) (resolve s.context (known s) s.names f) t
+    → (meaning (command_of w f)).names s names → IsSessionFormula s.context (length s.names) (resolve s.context (known s) s.names f) → IsSessionFormula s.context (length names) t
 given_formula wanted.Resolved f s limit t names given named own = same_names s t names named (subst (IsSessionFormula s.context (length s.names)) (sym given) own)
 given_formula wanted.NegationNormal f s limit t names given named own = same_names s t names named (subst (IsSessionFormula s.context (length s.names)) (sym given) (negated_formula s.context (length s.names) _ own))
 given_formula wanted.Prenex f s limit t names given named own = prenex_formula s.context s.names names _ t own given.form named
@@ -451,7 +459,7 @@ past_one limit count h = let e : limit ≡ h.0 = cc (h.1) in subst (λ n. n < co
 
 -- a prenex form has too many nodes, or a number of a renamed atom passes the limit
 refused_prenex : (f : FormulaTree) (s : State) (numbers : AreNumbered s.names (also f none)) (limit : ℕ) (target : Option (List ℕ)) (printed : Bool) → IsReady s wanted.Prenex f
-    → (e : FormsError) → PrenexFault s.context (length s.names) limit (resolve s.context s.bound s.names f) e → Refuses s limit (use_of target printed) (Pnf f) (forms_refusal e)
+    → (e : FormsError) → PrenexFault s.context (length s.names) limit (resolve s.context (known s) s.names f) e → Refuses s limit (use_of target printed) (Pnf f) (forms_refusal e)
 refused_prenex f s numbers limit target printed h forms.Nodes k other = record {
   applies = inr (λ x. x, k);
   first = clear_to_nodes wanted.Prenex f s numbers limit target printed h (λ p. let few = p.0 in absurd (omega arith));
@@ -461,7 +469,7 @@ refused_prenex f s numbers limit target printed h forms.Memory k other = absurd 
 
 -- the form is not made
 pub refused_form : (w : FormCommand) (f : FormulaTree) (s : State) (numbers : AreNumbered s.names (also f (given_trees w))) (limit : ℕ) (target : Option (List ℕ)) (printed : Bool) → IsReady s w f → MayAsk s limit (use_of target printed) w f
-    → (e : FormsError) → FormFault s.context (length s.names) limit (form_of w) (resolve s.context s.bound s.names f) e → Refuses s limit (use_of target printed) (command_of w f) (forms_refusal e)
+    → (e : FormsError) → FormFault s.context (length s.names) limit (form_of w) (resolve s.context (known s) s.names f) e → Refuses s limit (use_of target printed) (command_of w f) (forms_refusal e)
 refused_form wanted.Prenex f s numbers limit target printed h ask e k other = refused_prenex f s numbers limit target printed h e k other
 refused_form wanted.Resolved f s numbers limit target printed h ask forms.Overflow k other = absurd k
 refused_form wanted.Resolved f s numbers limit target printed h ask forms.Nodes k other = absurd k

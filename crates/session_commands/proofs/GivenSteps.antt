@@ -1,6 +1,6 @@
 -- The steps of a command that gives a formula, on the state.
 use Rattle.std.specs.Prelude.{Result, Ok, Err, OnOk, OnErr, IfOk, IfErr}
-use Rattle.std.proofs.Common.{◌≡◌, ◌⊎◌, ⊎_elim, inl, inr, ℕ, ◌<◌, List, ◌++◌, Bool, Option, Some, None, sym, ap, ◌∙◌, subst, refl, length}
+use Rattle.std.proofs.Common.{◌≡◌, ◌⊎◌, ⊎_elim, inl, inr, ℕ, ◌<◌, List, ◌++◌, Bool, true, false, Option, Some, None, sym, ap, ◌∙◌, subst, refl, length}
 use Rattle.formula_meaning.specs.Formula.{also}
 use Rattle.std.specs.List.{fold, IsDistinct}
 use Rattle.std.specs.Map.{keys_of}
@@ -14,22 +14,24 @@ use Rattle.atom_normal.specs.Atoms.{context_of}
 use Rattle.point_queries.specs.FromBlockScheduler.{Limits}
 use Rattle.atom_normal.specs.NormalForm.{IsNormal}
 use Rattle.qe_syntax.specs.Trees.{FormulaTree, FormulaTrees}
-use Rattle.qe_syntax.specs.Writable.{IsWritableFormula, AreWritableFormulas}
+use Rattle.qe_syntax.specs.Writable.{AreWritableFormulas}
 use Rattle.qe_syntax.specs.Value.{same_name}
 use Rattle.formula_tree.specs.Bindings.{bind}
 use Rattle.formula_tree.specs.Names.{with_name}
 use Rattle.resolved_formulas.specs.Resolving.{formula_variables, all_variables, resolve}
 use Rattle.resolved_formulas.proofs.PlaceLaws.{after_distinct}
 use Rattle.formula_resolving.specs.Numbering.{Grows}
-use Rattle.formula_resolving.specs.BoundIds.{AreIds}
 use Rattle.formula_tree.specs.declared.shape.Shape.{Shape}
 use Rattle.formula_store.specs.declared.id.FormulaId.{FormulaId}
 use Rattle.formula_store.specs.Nodes.{tree, IsId}
 use Rattle.formula_store.proofs.Numbers.{numbers_are_within}
 use Rattle.formula_meaning.specs.Within.{IsTreeWithin}
 use Rattle.formula_meaning.specs.Members.{HasTwoMembers}
-use Rattle.point_queries.specs.FromSessionState.{SessionState, state_of, IsSessionFormula, IsSound, IsSessionState, KeepsState, GrowsState}
+use Rattle.point_queries.specs.FromSessionState.{SessionState, state_of, IsSessionFormula, IsSound, IsSessionState, KeepsState, GrowsState, IsScripted, HasIds}
 use Rattle.session_meaning.specs.declared.line.Line.{Line}
+use Rattle.session_meaning.specs.declared.line.Line.TheVariants as line
+use Rattle.session_meaning.specs.Inside.{IsInnerAnswer}
+use Rattle.session_commands.specs.Inner.{IsOwn}
 use Rattle.session_meaning.specs.declared.line.StatementError.{StatementError}
 use Rattle.session_meaning.specs.declared.line.StatementError.TheVariants as error
 use Rattle.redlog_printer.specs.Text.{tree_text}
@@ -38,7 +40,7 @@ use Rattle.session_commands.specs.declared.formulas.FormCommand.{FormCommand}
 use Rattle.session_commands.specs.declared.formulas.FormCommand.TheVariants as wanted
 use Rattle.session_meaning.specs.Points.{IsQuantified}
 use Rattle.formula_meaning.specs.Shape.{IsQuantifierFree}
-use Rattle.session_meaning.specs.State.{State, with_names}
+use Rattle.session_meaning.specs.State.{State, with_names, known}
 use Rattle.point_queries.specs.FromCommandTools.{use_of, Refuses, state_with, IsFormulaAnswer, forms_refusal}
 use Rattle.session_commands.specs.Steps.{given_trees, form_of, command_of, HasUnwantedQuantifier, IsReady, IsUnready, IsWantedOf, MayBind, TargetFault, IsLineOf, GiveFault, HasFewBytes, MayAsk, AttemptRefuses, KeepsWhereEliminated, bound_after}
 use Rattle.point_queries.specs.FromProblemReading.{AreNumbered}
@@ -49,7 +51,7 @@ use Rattle.point_queries.proofs.FromSessionState.{bind_trees, bind_ids, bind_dis
 use Rattle.session_commands.proofs.NewNameLemmas.{form_names, answer_names_distinct, answer_names_variables}
 use Rattle.point_queries.proofs.PointLemmas.{resolved_free}
 use Rattle.point_queries.proofs.FromProblemReading.{assumed_normal, numbers_of, readable_formula}
-use Rattle.session_commands.proofs.GivenLemmas.{named_is, refused_unready, refused_form, refused_target, refused_line, is_given, given_formula}
+use Rattle.session_commands.proofs.GivenLemmas.{named_is, refused_unready, refused_form, refused_target, refused_line, is_accepted, may_give, is_given, given_formula}
 
 -- a state with one more formula bound is sound
 sound_bound : (s : State) (x : List ℕ) (t : Tree) → IsSound s → IsSessionFormula s.context (length s.names) t → Every IsAtomInLimit t → IsSound (state_with s (Some x) t)
@@ -59,6 +61,8 @@ sound_bound s x t h k fits = record {
   formulas = λ y u e. ⊎_elim (λ old. h.formulas y u old) (λ new. subst (IsSessionFormula s.context (length s.names)) (sym new) k) (bound_there s.bound x y t u e);
   numbers = λ y u e. ⊎_elim (λ old. h.numbers y u old) (λ new. subst (Every IsAtomInLimit) (sym new) fits) (bound_there s.bound x y t u e);
   standing = h.standing;
+  answers = h.answers;
+  answer_numbers = h.answer_numbers;
 }
 
 -- the names with the variables of the formula and of these assumptions, which are those of the wanted form
@@ -66,7 +70,7 @@ pub names_are : (w : FormCommand) (f : FormulaTree) (state : SessionState) (name
     → names ≡ fold with_name state.names (formula_variables f ++ all_variables (given_trees w))
 names_are w f state names gs e g = e ∙ ap (λ hs. fold with_name state.names (formula_variables f ++ all_variables hs)) g
 
-free_here : (s : State) (f : FormulaTree) (w : FormCommand) → IsDistributed (form_of w) → ¬ (HasUnwantedQuantifier s w f) → ¬ (IsQuantified s.bound f)
+free_here : (s : State) (f : FormulaTree) (w : FormCommand) → IsDistributed (form_of w) → ¬ (HasUnwantedQuantifier s w f) → ¬ (IsQuantified (known s) f)
 free_here s f wanted.Resolved d h = absurd d
 free_here s f wanted.NegationNormal d h = absurd d
 free_here s f wanted.Prenex d h = absurd d
@@ -129,20 +133,20 @@ keeps_formed wanted.NegationNormal old read later t k g n = tt
 keeps_formed wanted.Prenex old read later t k g n = tt
 keeps_formed (wanted.Distributed clauses) old read later t k g n = tt
 keeps_formed (wanted.Simplified given) old read later t k g n = tt
-keeps_formed (wanted.Eliminated found given) old read later t k g n = keeps_then old read later k (record { context = g.context; names = n; bindings = g.bindings; standing = g.standing; store = g.store })
+keeps_formed (wanted.Eliminated found given) old read later t k g n = keeps_then old read later k (record { context = g.context; names = n; bindings = g.bindings; standing = g.standing; answers = g.answers; store = g.store })
 
 -- ---- the wanted formula, on a state where the variables have their numbers
 
-module _ (w : FormCommand) (f : FormulaTree) (state : SessionState) (numbers : AreNumbered state.names (also f (given_trees w))) (h : IsSessionState state) (proper : IsWritableFormula f) where
+module _ (w : FormCommand) (f : FormulaTree) (state : SessionState) (numbers : AreNumbered state.names (also f (given_trees w))) (h : IsSessionState state) (proper : IsScripted f) where
   -- the resolved formula
   abbrev resolution : Tree
-  resolution = resolve (state_of state).context (state_of state).bound state.names f
+  resolution = resolve (state_of state).context (known (state_of state)) state.names f
 
   pub unready_refused : (limit : ℕ) (e : StatementError) → IsUnready (state_of state) w f e → (target : Option (List ℕ)) (printed : Bool) → Refuses (state_of state) limit (use_of target printed) (command_of w f) e
   unready_refused limit e u target printed = refused_unready w f (state_of state) numbers limit target printed e u
 
   own : IsReady (state_of state) w f → IsSessionFormula (state_of state).context (length state.names) resolution
-  own ready = readable_formula f (state_of state) (numbers.0) h.sound proper (ready.readable.0)
+  own ready = readable_formula f (state_of state) (numbers.0) h.sound proper.proper (ready.readable.0)
 
   -- the state after the formula and its assumptions were read, the formula's tree, and the atoms
   module _ (ready : IsReady (state_of state) w f) (read : SessionState) (kept : KeepsState state read) (t : Tree) (same : t ≡ resolution) (ks : List Atom) (same_atoms : ks ≡ assumed (state_of state) (given_trees w)) where
@@ -166,7 +170,7 @@ module _ (w : FormCommand) (f : FormulaTree) (state : SessionState) (numbers : A
     read_within = subst (λ ns. IsTreeWithin (length ns) t) (sym kept.names) (subst (IsTreeWithin (length state.names)) (sym same) (own ready).within)
 
     pub read_free : IsDistributed (form_of w) → IsQuantifierFree t
-    read_free d = subst (λ (u : Tree). IsQuantifierFree u) (sym same) (resolved_free (state_of state).context (state_of state).bound state.names f (free_here (state_of state) f w d ready.plain))
+    read_free d = subst (λ (u : Tree). IsQuantifierFree u) (sym same) (resolved_free (state_of state).context (known (state_of state)) state.names f (free_here (state_of state) f w d ready.plain))
 
     pub read_atoms : AreWritableFormulas (given_trees w) → EachOf (IsNormal (context_of read.context)) ks
     read_atoms given =
@@ -207,6 +211,30 @@ module _ (w : FormCommand) (f : FormulaTree) (state : SessionState) (numbers : A
     pub later_members : HasTwoMembers (tree later.store id)
     later_members = session_formula.members
 
+    pub later_session : IsSessionState later
+    later_session =
+        grown_session state later h k (answer_names_distinct (state_of state) (command_of w f) later.names h.sound.names_once is.names)
+        (answer_names_variables (state_of state) (command_of w f) later.names h.sound.variables is.names)
+
+    -- the formula as the answer of a command inside another one, which is neither bound nor printed
+    pub own_answer : IsOwn later id
+    own_answer = record {
+      is = made;
+      formula = subst (λ c. IsSessionFormula c (length later.names) (tree later.store id)) (sym (ap (λ (s : State). s.context) later_state)) session_formula;
+      numbers = numbers_are_within later.store id made;
+    }
+
+    not_printed : ¬ (false ≡ true)
+    not_printed e = absurd (cc)
+
+    pub inner_given : IsInnerAnswer (meaning (command_of w f)) (state_of state) limit (tree later.store id) later.names
+    inner_given = record {
+      accepted =
+          is_accepted w f (state_of state) numbers limit None false (tree later.store id) is.form is.ready h.sound (own is.ready) later.names is.names (record { room = λ x. x; small = λ x. x }) (λ l. not_printed l.0);
+      allowed = may_give w f (state_of state) numbers limit None false (tree later.store id) is.form is.ready h.sound (own is.ready) later.names is.names (numbers_are_within later.store id made);
+      named = is.names;
+    }
+
     module _ (target : Option (List ℕ)) (printed : Bool) where
       may_bind : MayBind (state_of later).bound target (tree later.store id) → MayBind (state_of state).bound target (tree later.store id)
       may_bind b = subst (λ c. MayBind c target (tree later.store id)) bound_same b
@@ -220,18 +248,13 @@ module _ (w : FormCommand) (f : FormulaTree) (state : SessionState) (numbers : A
 
       -- the state with the formula bound
       abbrev last : Option (List ℕ) → SessionState
-      last o = record { alloc = later.alloc; context = later.context; names = later.names; bindings = bound_after later.bindings o id; standing = later.standing; store = later.store; kept = later.kept }
+      last o = record { alloc = later.alloc; context = later.context; names = later.names; bindings = bound_after later.bindings o id; standing = later.standing; answers = later.answers; store = later.store; kept = later.kept }
 
       last_state : (o : Option (List ℕ)) → state_of (last o) ≡ state_with (with_names (state_of state) later.names) o (tree later.store id)
       last_state None = later_state
       last_state (Some x) =
-          state_parts _ _ _ _ _ _ _ _ (ap (λ (s : State). s.context) later_state) refl
-          (sym (bind_trees (tree later.store) later.bindings x id) ∙ ap (λ b. bind b x (tree later.store id)) bound_same) (ap (λ (s : State). s.standing) later_state)
-
-      later_session : IsSessionState later
-      later_session =
-          grown_session state later h k (answer_names_distinct (state_of state) (command_of w f) later.names h.sound.names_once is.names)
-          (answer_names_variables (state_of state) (command_of w f) later.names h.sound.variables is.names)
+          state_parts _ _ _ _ _ _ _ _ _ _ (ap (λ (s : State). s.context) later_state) refl
+          (sym (bind_trees (tree later.store) later.bindings x id) ∙ ap (λ b. bind b x (tree later.store id)) bound_same) (ap (λ (s : State). s.standing) later_state) (ap (λ (s : State). s.answers) later_state)
 
       later_sound : IsSound (with_names (state_of state) later.names)
       later_sound = subst IsSound later_state later_session.sound
@@ -240,9 +263,9 @@ module _ (w : FormCommand) (f : FormulaTree) (state : SessionState) (numbers : A
       last_sound None = later_sound
       last_sound (Some x) = sound_bound (with_names (state_of state) later.names) x (tree later.store id) later_sound session_formula (numbers_are_within later.store id made)
 
-      last_ids : (o : Option (List ℕ)) → AreIds (IsId later.store) (bound_after later.bindings o id)
+      last_ids : (o : Option (List ℕ)) → HasIds (last o)
       last_ids None = later_session.ids
-      last_ids (Some x) = bind_ids (IsId later.store) later.bindings x id later_session.ids made
+      last_ids (Some x) = record { bound = bind_ids (IsId later.store) later.bindings x id later_session.ids.bound made; answers = later_session.ids.answers }
 
       last_once : (o : Option (List ℕ)) → IsDistinct same_name (keys_of (bound_after later.bindings o id))
       last_once None = later_session.bound_once
@@ -274,20 +297,20 @@ module _ (w : FormCommand) (f : FormulaTree) (state : SessionState) (numbers : A
 
 module _ (w : FormCommand) (f : FormulaTree) (state : SessionState) (names : List (List ℕ)) (is : names ≡ fold with_name state.names (formula_variables f ++ all_variables (given_trees w))) where
   abbrev pub with_numbers : SessionState
-  with_numbers = record { alloc = state.alloc; context = state.context; names = names; bindings = state.bindings; standing = state.standing; store = state.store; kept = state.kept }
+  with_numbers = record { alloc = state.alloc; context = state.context; names = names; bindings = state.bindings; standing = state.standing; answers = state.answers; store = state.store; kept = state.kept }
 
   pub numbered_state : state_of with_numbers ≡ numbered (meaning (command_of w f)) (state_of state)
-  numbered_state = sym (named_is w f (state_of state) ∙ state_parts _ _ _ _ _ _ _ _ refl (sym is) refl refl)
+  numbered_state = sym (named_is w f (state_of state) ∙ state_parts _ _ _ _ _ _ _ _ _ _ refl (sym is) refl refl refl)
 
   pub numbers_there : AreNumbered names (also f (given_trees w))
   numbers_there = subst (λ ms. AreNumbered ms (also f (given_trees w))) (sym is) (numbers_of f (given_trees w) state.names)
 
-  pub numbered_session : IsSessionState state → Grows state.names names → IsWritableFormula f → AreWritableFormulas (given_trees w) → IsSessionState with_numbers
+  pub numbered_session : IsSessionState state → Grows state.names names → IsScripted f → AreWritableFormulas (given_trees w) → IsSessionState with_numbers
   numbered_session h g proper proper_given =
       let xs = formula_variables f ++ all_variables (given_trees w) in
-      let variables = both (formula_variables f) (all_variables (given_trees w)) (variables_of_formula f proper) (variables_of_all (given_trees w) proper_given) in
+      let variables = both (formula_variables f) (all_variables (given_trees w)) proper.variables (variables_of_all (given_trees w) proper_given) in
       record {
-        ids = h.ids;
+        ids = record { bound = h.ids.bound; answers = h.ids.answers };
         bound_once = h.bound_once;
         sound = sound_with (state_of state) names h.sound (subst (λ ms. IsDistinct same_name ms) (sym is) (after_distinct xs state.names h.sound.names_once))
             (subst AllVariables (sym is) (all_put_in state.names xs h.sound.variables variables)) (length_grows state.names names g);

@@ -11,7 +11,7 @@ use Rattle.resolved_formulas.specs.Resolving.{resolve}
 use Rattle.session_commands.specs.declared.formulas.FormCommand.{FormCommand}
 use Rattle.session_commands.specs.declared.formulas.FormCommand.TheVariants as wanted
 use Rattle.point_queries.specs.FromSharedForms.clause_form_variants as clause_form
-use Rattle.session_meaning.specs.State.{State}
+use Rattle.session_meaning.specs.State.{State, known}
 use Rattle.session_meaning.specs.FormulaAnswers.{HasNewNames}
 use Rattle.session_meaning.specs.Targets.{target_name}
 use Rattle.session_commands.specs.Steps.{form_of, command_of}
@@ -27,7 +27,7 @@ answer_names : (s : State) (c : CommandTree) (P : (List (List ℕ) → Type 0) �
     → P (λ names. s.names ≡ names ++ target_name ∷ []) → P ((meaning c).names s)
 answer_names s (Echo f) P old new dropped = old
 answer_names s (Nnf f) P old new dropped = old
-answer_names s (Pnf f) P old new dropped = new (resolve s.context s.bound s.names f)
+answer_names s (Pnf f) P old new dropped = new (resolve s.context (known s) s.names f)
 answer_names s (Dnf f) P old new dropped = old
 answer_names s (Cnf f) P old new dropped = old
 answer_names s (Simpl f given) P old new dropped = old
@@ -63,7 +63,7 @@ answer_names_variables s c names v =
     answer_names s c (λ R. R names → AllVariables names) (λ h. subst AllVariables (sym h) v) (λ f h. h.variables v) (λ h. front_all IsVariable names (target_name ∷ []) (subst AllVariables h v))
 
 -- the names after the wanted form was made
-pub form_names : (w : FormCommand) (f : FormulaTree) (s : State) (names : List (List ℕ)) → HasFormNames (form_of w) s.names (resolve s.context s.bound s.names f) names → (meaning (command_of w f)).names s names
+pub form_names : (w : FormCommand) (f : FormulaTree) (s : State) (names : List (List ℕ)) → HasFormNames (form_of w) s.names (resolve s.context (known s) s.names f) names → (meaning (command_of w f)).names s names
 form_names wanted.Resolved f s names h = h
 form_names wanted.NegationNormal f s names h = h
 form_names wanted.Prenex f s names h = h

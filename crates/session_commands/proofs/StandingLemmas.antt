@@ -157,7 +157,7 @@ module _ (old middle : SessionState) (given : FormulaTrees) (h : IsSessionState 
     grown_session =
         let m = same_session old middle h k in
         subst IsSessionState (sym g.rest) (record {
-          ids = m.ids;
+          ids = record { bound = m.ids.bound; answers = m.ids.answers };
           bound_once = m.bound_once;
           sound = subst IsSound (sym (ap state_of (sym g.rest) ∙ grown_state)) (record {
             names_once = h.sound.names_once;
@@ -165,6 +165,8 @@ module _ (old middle : SessionState) (given : FormulaTrees) (h : IsSessionState 
             formulas = h.sound.formulas;
             numbers = h.sound.numbers;
             standing = grown_formulas;
+            answers = h.sound.answers;
+            answer_numbers = h.sound.answer_numbers;
           });
         })
 
@@ -217,14 +219,14 @@ module _ (state : SessionState) (names : List (List ℕ)) (given : FormulaTrees)
     (is : names ≡ fold with_name state.names (all_variables given)) (proper : AreWritableFormulas given) where
   -- the state where the variables of the assumptions have their numbers
   abbrev pub with_numbers : SessionState
-  with_numbers = record { alloc = state.alloc; context = state.context; names = names; bindings = state.bindings; standing = state.standing; store = state.store; kept = state.kept }
+  with_numbers = record { alloc = state.alloc; context = state.context; names = names; bindings = state.bindings; standing = state.standing; answers = state.answers; store = state.store; kept = state.kept }
 
   start : state_of with_numbers ≡ numbered (assumption_meaning given) (state_of state)
-  start = state_parts _ _ _ _ _ _ _ _ refl (is ∙ ap (λ xs. fold with_name state.names xs) (sym (append-nil (all_variables given)))) refl refl
+  start = state_parts _ _ _ _ _ _ _ _ _ _ refl (is ∙ ap (λ xs. fold with_name state.names xs) (sym (append-nil (all_variables given)))) refl refl refl
 
   pub session_named : IsSessionState with_numbers
   session_named = record {
-    ids = h.ids;
+    ids = record { bound = h.ids.bound; answers = h.ids.answers };
     bound_once = h.bound_once;
     sound = sound_with (state_of state) names h.sound (subst (λ ms. IsDistinct same_name ms) (sym is) (after_distinct (all_variables given) state.names h.sound.names_once))
         (subst AllVariables (sym is) (all_put_in state.names (all_variables given) h.sound.variables (variables_of_all given proper)))

@@ -1,4 +1,9 @@
 pub mod Steps
+pub mod Asking
+pub mod Running
+pub mod Inner
+pub mod InnerForms
+pub mod Through
 pub mod Accepted
 pub mod Seen
 pub mod Standing

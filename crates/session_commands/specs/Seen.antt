@@ -1,6 +1,6 @@
--- What is seen of a session: the formulas that it keeps, each once, what is bound to names by its place among them, what is assumed, and its
+-- What is seen of a session between statements: the formulas that it keeps, each once, what is bound to names by its place among them, what is assumed, and its
 -- limits; and the state that this stands for.
-use Rattle.std.specs.Prelude.{ℕ, List}
+use Rattle.std.specs.Prelude.{ℕ, List, []}
 use Rattle.atom_normal.specs.declared.atoms.Context.{Context}
 use Rattle.atom_normal.specs.Atoms.{context_of}
 use Rattle.formula_tree.specs.declared.shape.Shape.{Shape}
@@ -20,4 +20,4 @@ pub record Seen : Type 0 where
   pub limits : Limits
 
 abbrev pub state_in : Seen → State
-state_in s = record { context = context_of s.context; names = s.names; bound = trees_bound (tree s.formulas) s.bindings; standing = standing_trees s.standing }
+state_in s = record { context = context_of s.context; names = s.names; bound = trees_bound (tree s.formulas) s.bindings; standing = standing_trees s.standing; answers = [] }

@@ -18,7 +18,7 @@ use Rattle.session_commands.specs.declared.formulas.FormCommand.{FormCommand}
 use Rattle.session_commands.specs.declared.formulas.FormCommand.TheVariants as wanted
 use Rattle.point_queries.specs.FromSharedForms.clause_form_variants as clause_form
 use Rattle.point_queries.specs.FromSharedForms.way_variants as way
-use Rattle.session_meaning.specs.State.{State}
+use Rattle.session_meaning.specs.State.{State, known}
 use Rattle.session_meaning.specs.Assumptions.{assumed}
 use Rattle.point_queries.specs.FromCommandTools.{Refuses, IsLongText, LineFault}
 use Rattle.session_meaning.specs.Meaning.{meaning}
@@ -62,7 +62,7 @@ abbrev pub HasUnwantedQuantifier : State → FormCommand → FormulaTree → Typ
 HasUnwantedQuantifier s wanted.Resolved f = ⊥
 HasUnwantedQuantifier s wanted.NegationNormal f = ⊥
 HasUnwantedQuantifier s wanted.Prenex f = ⊥
-HasUnwantedQuantifier s (wanted.Distributed clauses) f = IsQuantified s.bound f
+HasUnwantedQuantifier s (wanted.Distributed clauses) f = IsQuantified (known s) f
 HasUnwantedQuantifier s (wanted.Simplified given) f = ⊥
 HasUnwantedQuantifier s (wanted.Eliminated found given) f = ⊥
 
@@ -91,7 +91,7 @@ IsUnready s w f e = IsQuantifiedFirst s w f e ⊎ IsUnreadFirst s w f e
 -- t is the wanted form of a formula that is read in a state in which its variables have their numbers, and these are the names after it
 pub record IsWantedOf (s : State) (limit : ℕ) (w : FormCommand) (f : FormulaTree) (t : Tree) (after : List (List ℕ)) : Type 0 where
   pub ready : IsReady s w f
-  pub form : IsFormOf s.context (length s.names) (assumed s (given_trees w)) limit (form_of w) (resolve s.context s.bound s.names f) t
+  pub form : IsFormOf s.context (length s.names) (assumed s (given_trees w)) limit (form_of w) (resolve s.context (known s) s.names f) t
   pub names : (meaning (command_of w f)).names s after
 
 -- the formula may be bound to the name, if there is one

@@ -1,17 +1,18 @@
 //! Commands that give a formula: it is printed, or bound to a name.
 
 ghost use Rattle.formula_meaning.specs.Formula.{also};
-ghost use Rattle.std.specs.Prelude.{◌≡◌, ◌⊎◌, ◌↔◌, ◌<◌, ◌≤◌, ◌++◌, ℕ, List, Bool, true, IsTrue, Option, IfOk, IfErr, IfSome, IfNone, MatchOption, OnOk, OnErr, length, codes, map};
+ghost use Rattle.std.specs.Prelude.{◌≡◌, ◌⊎◌, ◌↔◌, ◌<◌, ◌≤◌, ◌++◌, ℕ, List, Bool, true, IsTrue, Option, Some, IfOk, IfErr, IfSome, IfNone, MatchOption, OnOk, OnErr, length, codes, map};
 ghost use Rattle.std.specs.Bool.{MatchBool};
 ghost use Rattle.formula_tree.specs.Bindings.{bound_to, most_bound};
-ghost use Rattle.formula_resolving.specs.BoundIds.{AreIds};
 ghost use Rattle.formula_store.specs.Nodes.{tree, IsId};
 ghost use Rattle.formula_meaning.specs.Within.{IsTreeWithin};
 ghost use Rattle.formula_meaning.specs.Members.{HasTwoMembers};
 ghost use Rattle.redlog_printer.specs.Text.{tree_text};
 ghost use Rattle.redlog_printer.specs.Writing.{text_limit};
 ghost use Rattle.qe_syntax.specs.Writable.{IsWritableFormula, AreWritableFormulas};
-ghost use Rattle.statement_syntax.specs.PlainStatements.{plain_command};
+ghost use Rattle.session_commands.specs.Asking.{asked_command, formula_asked};
+ghost use Rattle.session_commands.specs.InnerForms.{IsInnerForm};
+ghost use Rattle.qe_syntax.specs.CodeTrees.{whole_command as inner_nest};
 ghost use Rattle.qe_syntax.specs.Trees.{formulas_of};
 ghost use Rattle.qe_syntax.specs.CodeTrees.{formula_tree};
 ghost use Rattle.point_queries.specs.FromCommandTools.{use_of, Refuses, IsFormulaAnswer, IsLongText, LineFault};
@@ -24,18 +25,18 @@ ghost use Rattle.formula_meaning.specs.Tree.{tree_distinct};
 ghost use Rattle.session_meaning.specs.declared.TheConstants.{MOST_SUBFORMULAS};
 ghost use Rattle.session_meaning.specs.Causes.{HasNoRoom};
 ghost use Rattle.session_meaning.specs.Reply.{IsLine};
-ghost use Rattle.point_queries.specs.FromSessionState.{state_of, IsSessionState, KeepsState, GrowsState};
+ghost use Rattle.point_queries.specs.FromSessionState.{state_of, IsSessionState, HasIds, HasAnswers, answered_tree, KeepsState, GrowsState};
 
 use formula_store::FormulaId;
 use formula_tree::{BindError, Bindings};
 use point_queries::{
-    ClauseForm, Form, Premised, SessionState, Way, Workshop, formed, forms_refusal, number_parts,
-    read_parts, text_of,
+    ClauseForm, Form, Premised, SessionState, Way, Workshop, formed, forms_refusal,
+    holds_quantifier, number_parts, read_parts, text_of,
 };
 use qe_parallel::Gate;
-use qe_syntax::{Formula, Formulas, Name};
+use qe_syntax::{Formula, Formulas, InnerCommand, Name};
 use redlog_printer::TEXT_LIMIT;
-use session_meaning::{Line, MOST_SUBFORMULAS, StatementError, is_quantified};
+use session_meaning::{Line, MOST_SUBFORMULAS, StatementError};
 use statement_syntax::Command;
 use std::alloc::Global;
 use std::thread::Threads;
@@ -104,9 +105,10 @@ impl<'a> FormCommand<'a> {
 
 /// What formula the command asks for, and of which one; `None` of a query.
 pub(crate) fn form_command_of(command: &Command) -> Option<(FormCommand<'_>, &Formula)>
-    ensures asked { IfSome result (λ r. plain_command command.now ≡ command_of r.0 (formula_tree r.1.now)) }
+    ensures asked { IfSome result (λ r. asked_command command.now ≡ command_of r.0 (answered_tree r.1.now)) }
+    ensures formula { IfSome result (λ r. formula_asked command.now ≡ Some r.1.now) }
     ensures first { IfSome result (λ r. IsFirstAttempt r.0) }
-    ensures query { IfNone result (¬ (GivesFormula (meaning (plain_command command.now)).answer)) }
+    ensures query { IfNone result (¬ (GivesFormula (meaning (asked_command command.now)).answer)) }
 {
     match command {
         Command::Echo(formula) => Some((FormCommand::Resolved, formula)),
@@ -128,6 +130,22 @@ pub(crate) fn form_command_of(command: &Command) -> Option<(FormCommand<'_>, &Fo
     }
 }
 
+/// What formula a command inside another one asks for, and of which one.
+#[tactic(auto, using(qe_syntax::proofs::TreeEquations::wholes))]
+pub(crate) fn inner_form_of(command: &InnerCommand) -> (FormCommand<'_>, &Formula)
+    ensures form { IsInnerForm result.0 result.1.now (inner_nest command.now) }
+    ensures first { IsFirstAttempt result.0 }
+{
+    match command {
+        InnerCommand::Nnf(formula) => (FormCommand::NegationNormal, formula),
+        InnerCommand::Pnf(formula) => (FormCommand::Prenex, formula),
+        InnerCommand::Dnf(formula) => (FormCommand::Distributed(ClauseForm::Disjunctive), formula),
+        InnerCommand::Cnf(formula) => (FormCommand::Distributed(ClauseForm::Conjunctive), formula),
+        InnerCommand::Simpl(formula, given) => (FormCommand::Simplified(given), formula),
+        InnerCommand::Qe(formula, given) => (FormCommand::Eliminated(Way::ByCases, given), formula),
+    }
+}
+
 /// Answers a command that gives a formula. After an `Err` the names may have grown.
 pub(crate) fn answer_formula<R: Threads + Sync, G: Gate + Sync>(
     workshop: &Workshop<'_, R, G>,
@@ -138,13 +156,13 @@ pub(crate) fn answer_formula<R: Threads + Sync, G: Gate + Sync>(
     printed: bool,
 ) -> Result<Line, StatementError>
     requires workers { 1 ≤ workshop.now.limits.workers }
-    requires proper { IsWritableFormula (formula_tree formula.now) }
+    requires answers { HasAnswers state.old formula.now }
     requires given { AreWritableFormulas (given_trees wanted) }
     requires session { IsSessionState state.old }
     requires first { IsFirstAttempt wanted }
     ensures session { OnOk result (IsSessionState state.new) }
-    ensures answer { IfOk result (λ line. IsFormulaAnswer (numbered (meaning (command_of wanted.entry (formula_tree formula.now))) (state_of state.old)) workshop.now.limits.nodes (use_of target.now printed) (command_of wanted.entry (formula_tree formula.now)) line (state_of state.new)) }
-    ensures refused { IfErr result (Refuses (numbered (meaning (command_of wanted.entry (formula_tree formula.now))) (state_of state.old)) workshop.now.limits.nodes (use_of target.now printed) (command_of wanted.entry (formula_tree formula.now))) }
+    ensures answer { IfOk result (λ line. IsFormulaAnswer (numbered (meaning (command_of wanted.entry (answered_tree formula.now))) (state_of state.old)) workshop.now.limits.nodes (use_of target.now printed) (command_of wanted.entry (answered_tree formula.now)) line (state_of state.new)) }
+    ensures refused { IfErr result (Refuses (numbered (meaning (command_of wanted.entry (answered_tree formula.now))) (state_of state.old)) workshop.now.limits.nodes (use_of target.now printed) (command_of wanted.entry (answered_tree formula.now))) }
     ensures grown { OnErr result (GrowsState state.old state.new) }
 {
     let assumptions = wanted.assumptions();
@@ -163,14 +181,14 @@ fn answer_numbered<R: Threads + Sync, G: Gate + Sync>(
     printed: bool,
 ) -> Result<Line, StatementError>
     requires workers { 1 ≤ workshop.now.limits.workers }
-    requires proper { IsWritableFormula (formula_tree formula.now) }
+    requires answers { HasAnswers state.old formula.now }
     requires given { AreWritableFormulas (given_trees wanted) }
     requires session { IsSessionState state.old }
-    requires numbered { AreNumbered state.old.names (also (formula_tree formula.now) (given_trees wanted)) }
+    requires numbered { AreNumbered state.old.names (also (answered_tree formula.now) (given_trees wanted)) }
     requires first { IsFirstAttempt wanted }
     ensures session { OnOk result (IsSessionState state.new) }
-    ensures answer { IfOk result (λ line. IsFormulaAnswer (state_of state.old) workshop.now.limits.nodes (use_of target.now printed) (command_of wanted.entry (formula_tree formula.now)) line (state_of state.new)) }
-    ensures refused { IfErr result (Refuses (state_of state.old) workshop.now.limits.nodes (use_of target.now printed) (command_of wanted.entry (formula_tree formula.now))) }
+    ensures answer { IfOk result (λ line. IsFormulaAnswer (state_of state.old) workshop.now.limits.nodes (use_of target.now printed) (command_of wanted.entry (answered_tree formula.now)) line (state_of state.new)) }
+    ensures refused { IfErr result (Refuses (state_of state.old) workshop.now.limits.nodes (use_of target.now printed) (command_of wanted.entry (answered_tree formula.now))) }
     ensures grown { OnErr result (GrowsState state.old state.new) }
 {
     let error = match attempt(workshop, state, wanted, formula, target, printed) {
@@ -217,13 +235,13 @@ fn attempt<R: Threads + Sync, G: Gate + Sync>(
     printed: bool,
 ) -> Result<Line, StatementError>
     requires workers { 1 ≤ workshop.now.limits.workers }
-    requires proper { IsWritableFormula (formula_tree formula.now) }
+    requires answers { HasAnswers state.old formula.now }
     requires given { AreWritableFormulas (given_trees wanted) }
     requires session { IsSessionState state.old }
-    requires numbered { AreNumbered state.old.names (also (formula_tree formula.now) (given_trees wanted)) }
+    requires numbered { AreNumbered state.old.names (also (answered_tree formula.now) (given_trees wanted)) }
     ensures session { OnOk result (IsSessionState state.new) }
-    ensures answer { IfOk result (λ line. IsFormulaAnswer (state_of state.old) workshop.now.limits.nodes (use_of target.now printed) (command_of wanted.entry (formula_tree formula.now)) line (state_of state.new)) }
-    ensures refused { IfErr result (AttemptRefuses (state_of state.old) workshop.now.limits.nodes (use_of target.now printed) wanted.entry (formula_tree formula.now)) }
+    ensures answer { IfOk result (λ line. IsFormulaAnswer (state_of state.old) workshop.now.limits.nodes (use_of target.now printed) (command_of wanted.entry (answered_tree formula.now)) line (state_of state.new)) }
+    ensures refused { IfErr result (AttemptRefuses (state_of state.old) workshop.now.limits.nodes (use_of target.now printed) wanted.entry (answered_tree formula.now)) }
     ensures grown { OnErr result (GrowsState state.old state.new) }
     ensures kept { OnErr result (KeepsWhereEliminated wanted.entry state.old state.new) }
 {
@@ -232,20 +250,20 @@ fn attempt<R: Threads + Sync, G: Gate + Sync>(
 }
 
 /// The formula that is wanted, or the first cause of a refusal in reading or in making it. The names may have grown.
-fn wanted_formula<R: Threads + Sync, G: Gate + Sync>(
+pub(crate) fn wanted_formula<R: Threads + Sync, G: Gate + Sync>(
     workshop: &Workshop<'_, R, G>,
     state: &mut SessionState,
     wanted: FormCommand<'_>,
     formula: &Formula,
 ) -> Result<FormulaId, StatementError>
     requires workers { 1 ≤ workshop.now.limits.workers }
-    requires proper { IsWritableFormula (formula_tree formula.now) }
+    requires answers { HasAnswers state.old formula.now }
     requires given { AreWritableFormulas (given_trees wanted) }
     requires session { IsSessionState state.old }
-    requires numbered { AreNumbered state.old.names (also (formula_tree formula.now) (given_trees wanted)) }
+    requires numbered { AreNumbered state.old.names (also (answered_tree formula.now) (given_trees wanted)) }
     ensures made { IfOk result (IsId state.new.store) }
-    ensures wanted { IfOk result (λ id. IsWantedOf (state_of state.old) workshop.now.limits.nodes wanted.entry (formula_tree formula.now) (tree state.new.store id) state.new.names) }
-    ensures refused { IfErr result (λ e. (target : Option (List ℕ)) (printed : Bool) → MayAsk (state_of state.old) workshop.now.limits.nodes (use_of target printed) wanted.entry (formula_tree formula.now) → Refuses (state_of state.old) workshop.now.limits.nodes (use_of target printed) (command_of wanted.entry (formula_tree formula.now)) e) }
+    ensures wanted { IfOk result (λ id. IsWantedOf (state_of state.old) workshop.now.limits.nodes wanted.entry (answered_tree formula.now) (tree state.new.store id) state.new.names) }
+    ensures refused { IfErr result (λ e. (target : Option (List ℕ)) (printed : Bool) → MayAsk (state_of state.old) workshop.now.limits.nodes (use_of target printed) wanted.entry (answered_tree formula.now) → Refuses (state_of state.old) workshop.now.limits.nodes (use_of target printed) (command_of wanted.entry (answered_tree formula.now)) e) }
     ensures grown { GrowsState state.old state.new }
     ensures other { IfErr result (λ e. ¬ (IsForSize e)) }
     ensures kept { KeepsWhereEliminated wanted.entry state.old state.new }
@@ -288,13 +306,13 @@ fn read_wanted(
     wanted: FormCommand<'_>,
     formula: &Formula,
 ) -> Result<Premised, StatementError>
-    requires proper { IsWritableFormula (formula_tree formula.now) }
+    requires answers { HasAnswers state.old formula.now }
     requires given { AreWritableFormulas (given_trees wanted) }
-    requires ids { AreIds (IsId state.old.store) state.old.bindings }
-    requires numbered { AreNumbered state.old.names (also (formula_tree formula.now) (given_trees wanted)) }
-    ensures read { IfOk result (AreRead (state_of state.old) (formula_tree formula.now) (given_trees wanted.entry) state.new) }
-    ensures ready { OnOk result (IsReady (state_of state.old) wanted.entry (formula_tree formula.now)) }
-    ensures unready { IfErr result (IsUnready (state_of state.old) wanted.entry (formula_tree formula.now)) }
+    requires ids { HasIds state.old }
+    requires numbered { AreNumbered state.old.names (also (answered_tree formula.now) (given_trees wanted)) }
+    ensures read { IfOk result (AreRead (state_of state.old) (answered_tree formula.now) (given_trees wanted.entry) state.new) }
+    ensures ready { OnOk result (IsReady (state_of state.old) wanted.entry (answered_tree formula.now)) }
+    ensures unready { IfErr result (IsUnready (state_of state.old) wanted.entry (answered_tree formula.now)) }
     ensures kept { KeepsState state.old state.new }
 {
     match read_parts(state, formula, wanted.assumptions()) {
@@ -315,14 +333,13 @@ fn read_wanted(
 }
 
 /// Whether a quantifier stands in a formula that is asked for its disjunctive or conjunctive form.
-#[tactic(auto, using(session_meaning::proofs::FromFreeNames::written_whole))]
 fn has_unwanted_quantifier(state: &SessionState, wanted: FormCommand<'_>, formula: &Formula) -> bool
-    requires proper { IsWritableFormula (formula_tree formula.now) }
-    requires ids { AreIds (IsId state.now.store) state.now.bindings }
-    ensures { IsTrue result ↔ HasUnwantedQuantifier (state_of state.now) wanted.entry (formula_tree formula.now) }
+    requires answers { HasAnswers state.now formula.now }
+    requires ids { HasIds state.now }
+    ensures { IsTrue result ↔ HasUnwantedQuantifier (state_of state.now) wanted.entry (answered_tree formula.now) }
 {
     match wanted {
-        FormCommand::Distributed(_) => is_quantified(formula, &state.bindings, &state.store),
+        FormCommand::Distributed(_) => holds_quantifier(state, formula),
         FormCommand::Resolved | FormCommand::NegationNormal | FormCommand::Prenex => false,
         FormCommand::Simplified(_) | FormCommand::Eliminated(..) => false,
     }

@@ -3,6 +3,7 @@
 
 mod assumptions;
 mod formulas;
+mod inner;
 mod laws;
 mod session;
 

@@ -1,17 +1,20 @@
-ghost use Rattle.std.specs.Prelude.{◌≡◌, ◌≤◌, Some, None, IfOk, IfErr, OnOk, OnErr};
-ghost use Rattle.statement_syntax.specs.PlainStatements.{plain_statement, plain_command};
-ghost use Rattle.statement_syntax.specs.Writable.{IsWritableAction, IsWritableCommand};
+ghost use Rattle.std.specs.Prelude.{◌≡◌, ◌≤◌, [], Some, None, IfOk, IfErr, OnOk, OnErr};
+ghost use Rattle.qe_syntax.specs.Holes.{alone};
+ghost use Rattle.statement_syntax.specs.CodeTrees.{statement_tree};
+ghost use Rattle.session_commands.specs.Asking.{asked_command, asked_action, IsWritten, CanAsk, CanAct};
 ghost use Rattle.point_queries.specs.FromSessionState.{state_of, IsSessionState, GrowsState};
 ghost use Rattle.point_queries.specs.FromCommandTools.{use_of, Refuses, IsStopped, IsFormulaAnswer, BindsFormula, read_refusal};
 ghost use Rattle.session_meaning.specs.Meaning.{meaning, numbered};
 ghost use Rattle.session_meaning.specs.FormulaGiven.{GivesFormula};
-ghost use Rattle.session_meaning.specs.Reply.{IsLine, AnswersSaid, Answers, Reply};
+ghost use Rattle.session_meaning.specs.Reply.{IsLine, AnswersSaid, Answers, with_variables, Reply};
+ghost use Rattle.session_commands.specs.Through.{IsStatementAnswer, IsStatementStopped, IsAnsweredThrough, LeavesState};
 ghost use Rattle.session_meaning.specs.Words.{context_text};
 ghost use Rattle.session_commands.specs.Seen.{state_in};
 ghost use Rattle.session_meaning.specs.State.{first_state, theory_of, chosen};
 
 use crate::assumptions::{assume, retract};
 use crate::formulas::{answer_formula, form_command_of};
+use crate::inner::answer_inside;
 use atom_normal::Context;
 use certificate_queries::{answer_certificate, answer_check};
 use least_queries::answer_least;
@@ -36,7 +39,7 @@ pub struct Session {
 }
 
 impl Model for Session {
-    ghost use Rattle.std.specs.Prelude.{◌≤◌};
+    ghost use Rattle.std.specs.Prelude.{◌≡◌, ◌≤◌, []};
     ghost use Rattle.point_queries.specs.FromSessionState.{IsSessionState};
     ghost use Rattle.session_commands.specs.Seen.{Seen};
 
@@ -44,7 +47,7 @@ impl Model for Session {
 
     ghost view = { λ s. record { context = s.state.context; names = s.state.names; bindings = s.state.bindings; standing = s.state.standing; formulas = s.state.store; limits = s.limits } };
 
-    ghost invariant = { λ s. IsSessionState s.state × (1 ≤ s.limits.workers) };
+    ghost invariant = { λ s. IsSessionState s.state × (s.state.answers.items ≡ []) × (1 ≤ s.limits.workers) };
 }
 
 impl Session {
@@ -91,7 +94,7 @@ impl Session {
     }
 }
 
-/// Reads a statement and answers it. One inside which a command stands is not answered.
+/// Reads a statement and answers it.
 fn reply_to<R: Threads + Sync, G: Gate + Sync>(
     workshop: &Workshop<'_, R, G>,
     state: &mut SessionState,
@@ -99,16 +102,13 @@ fn reply_to<R: Threads + Sync, G: Gate + Sync>(
 ) -> Result<Line, StatementError>
     requires workers { 1 ≤ workshop.now.limits.workers }
     requires session { IsSessionState state.old }
+    requires settled { state.old.answers.items ≡ [] }
     ensures session { IsSessionState state.new }
+    ensures settled { state.new.answers.items ≡ [] }
     ensures reply { Reply (state_of state.old) workshop.now.limits.nodes bytes.now result (state_of state.new) }
 {
     match read_statement(state.alloc, bytes) {
-        Ok(statement) => {
-            if statement.has_inner_command() {
-                return Err(StatementError::Syntax);
-            }
-            answer(workshop, state, &statement)
-        }
+        Ok(statement) => answer(workshop, state, &statement),
         Err(error) => Err(refusal_of(error)),
     }
 }
@@ -126,23 +126,27 @@ fn refusal_of(error: ReadError) -> StatementError
     }
 }
 
-/// Answers a statement. An `Err` leaves the state as it was.
+/// Answers a statement, the commands inside it first. An `Err` leaves the state as it was.
 fn answer<R: Threads + Sync, G: Gate + Sync>(
     workshop: &Workshop<'_, R, G>,
     state: &mut SessionState,
     statement: &Statement,
 ) -> Result<Line, StatementError>
     requires workers { 1 ≤ workshop.now.limits.workers }
-    requires proper { IsWritableAction (plain_statement statement.now).action }
-    requires formula { BindsFormula (plain_statement statement.now).action }
+    requires written { IsWritten statement.now.action }
+    requires formula { BindsFormula (asked_action statement.now.action) }
     requires session { IsSessionState state.old }
+    requires settled { state.old.answers.items ≡ [] }
     ensures session { IsSessionState state.new }
-    ensures answer { IfOk result (λ line. Answers (state_of state.old) workshop.now.limits.nodes statement.now.printed (plain_statement statement.now).action line (state_of state.new)) }
-    ensures refusal { IfErr result (IsStopped (state_of state.old) workshop.now.limits.nodes (plain_statement statement.now)) }
+    ensures settled { state.new.answers.items ≡ [] }
+    ensures answer { IfOk result (λ line. IsStatementAnswer statement.now (state_of state.old) workshop.now.limits.nodes line (state_of state.new)) }
+    ensures refusal { IfErr result (IsStatementStopped statement.now (state_of state.old) workshop.now.limits.nodes) }
     ensures unchanged { OnErr result (state_of state.new ≡ state_of state.old) }
 {
     let count = state.names.count();
-    match act(workshop, state, statement) {
+    let result = answer_all(workshop, state, statement);
+    state.answers.clear();
+    match result {
         Ok(line) => Ok(line),
         Err(error) => {
             state.names.keep_first(count);
@@ -151,7 +155,27 @@ fn answer<R: Threads + Sync, G: Gate + Sync>(
     }
 }
 
-/// Does what the statement says. After an `Err` the names may have grown.
+/// The same, where the answers of the commands inside are left in the state, and after an `Err` the names may have grown.
+fn answer_all<R: Threads + Sync, G: Gate + Sync>(
+    workshop: &Workshop<'_, R, G>,
+    state: &mut SessionState,
+    statement: &Statement,
+) -> Result<Line, StatementError>
+    requires workers { 1 ≤ workshop.now.limits.workers }
+    requires written { IsWritten statement.now.action }
+    requires formula { BindsFormula (asked_action statement.now.action) }
+    requires session { IsSessionState state.old }
+    requires settled { state.old.answers.items ≡ [] }
+    ensures session { OnOk result (IsSessionState state.new) }
+    ensures answer { IfOk result (λ line. IsAnsweredThrough statement.now (state_of state.old) workshop.now.limits.nodes line (state_of state.new)) }
+    ensures refusal { IfErr result (IsStatementStopped statement.now (state_of state.old) workshop.now.limits.nodes) }
+    ensures left { OnErr result (LeavesState state.old state.new) }
+{
+    answer_inside(workshop, state, &statement.action)?;
+    act(workshop, state, statement)
+}
+
+/// Does what the statement says, with the answers of the commands inside it. After an `Err` the names may have grown.
 #[tactic(auto, using(crate::proofs::ItemTrees::item_trees))]
 fn act<R: Threads + Sync, G: Gate + Sync>(
     workshop: &Workshop<'_, R, G>,
@@ -159,12 +183,12 @@ fn act<R: Threads + Sync, G: Gate + Sync>(
     statement: &Statement,
 ) -> Result<Line, StatementError>
     requires workers { 1 ≤ workshop.now.limits.workers }
-    requires proper { IsWritableAction (plain_statement statement.now).action }
-    requires formula { BindsFormula (plain_statement statement.now).action }
+    requires ready { CanAct state.old statement.now.action }
+    requires formula { BindsFormula (asked_action statement.now.action) }
     requires session { IsSessionState state.old }
     ensures session { OnOk result (IsSessionState state.new) }
-    ensures answer { IfOk result (λ line. Answers (state_of state.old) workshop.now.limits.nodes statement.now.printed (plain_statement statement.now).action line (state_of state.new)) }
-    ensures refusal { IfErr result (IsStopped (state_of state.old) workshop.now.limits.nodes (plain_statement statement.now)) }
+    ensures answer { IfOk result (λ line. Answers (with_variables alone (asked_action statement.now.action) (state_of state.old)) workshop.now.limits.nodes statement.now.printed (asked_action statement.now.action) line (state_of state.new)) }
+    ensures refusal { IfErr result (IsStopped (with_variables alone (asked_action statement.now.action) (state_of state.old)) workshop.now.limits.nodes statement.now.printed (asked_action statement.now.action)) }
     ensures grown { OnErr result (GrowsState state.old state.new) }
 {
     match &statement.action {
@@ -207,11 +231,11 @@ fn say<R: Threads + Sync, G: Gate + Sync>(
     printed: bool,
 ) -> Result<Line, StatementError>
     requires workers { 1 ≤ workshop.now.limits.workers }
-    requires proper { IsWritableCommand (plain_command command.now) }
+    requires ready { CanAsk state.old command.now }
     requires session { IsSessionState state.old }
     ensures session { OnOk result (IsSessionState state.new) }
-    ensures answer { IfOk result (λ line. AnswersSaid (meaning (plain_command command.now)) (numbered (meaning (plain_command command.now)) (state_of state.old)) workshop.now.limits.nodes printed line (state_of state.new)) }
-    ensures refusal { IfErr result (Refuses (numbered (meaning (plain_command command.now)) (state_of state.old)) workshop.now.limits.nodes (use_of None printed) (plain_command command.now)) }
+    ensures answer { IfOk result (λ line. AnswersSaid (meaning (asked_command command.now)) (numbered (meaning (asked_command command.now)) (state_of state.old)) workshop.now.limits.nodes printed line (state_of state.new)) }
+    ensures refusal { IfErr result (Refuses (numbered (meaning (asked_command command.now)) (state_of state.old)) workshop.now.limits.nodes (use_of None printed) (asked_command command.now)) }
     ensures grown { OnErr result (GrowsState state.old state.new) }
 {
     match command {
@@ -263,12 +287,12 @@ fn answer_form_command<R: Threads + Sync, G: Gate + Sync>(
     printed: bool,
 ) -> Result<Line, StatementError>
     requires workers { 1 ≤ workshop.now.limits.workers }
-    requires proper { IsWritableCommand (plain_command command.now) }
-    requires formula { GivesFormula (meaning (plain_command command.now)).answer }
+    requires ready { CanAsk state.old command.now }
+    requires formula { GivesFormula (meaning (asked_command command.now)).answer }
     requires session { IsSessionState state.old }
     ensures session { OnOk result (IsSessionState state.new) }
-    ensures answer { IfOk result (λ line. IsFormulaAnswer (numbered (meaning (plain_command command.now)) (state_of state.old)) workshop.now.limits.nodes (use_of target.now printed) (plain_command command.now) line (state_of state.new)) }
-    ensures refusal { IfErr result (Refuses (numbered (meaning (plain_command command.now)) (state_of state.old)) workshop.now.limits.nodes (use_of target.now printed) (plain_command command.now)) }
+    ensures answer { IfOk result (λ line. IsFormulaAnswer (numbered (meaning (asked_command command.now)) (state_of state.old)) workshop.now.limits.nodes (use_of target.now printed) (asked_command command.now) line (state_of state.new)) }
+    ensures refusal { IfErr result (Refuses (numbered (meaning (asked_command command.now)) (state_of state.old)) workshop.now.limits.nodes (use_of target.now printed) (asked_command command.now)) }
     ensures grown { OnErr result (GrowsState state.old state.new) }
 {
     let Some((wanted, formula)) = form_command_of(command) else {

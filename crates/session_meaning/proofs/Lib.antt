@@ -1,4 +1,3 @@
 mod Examples
 pub mod FromAnswerTexts
-pub mod FromFreeNames
 pub mod FromPrenexForms

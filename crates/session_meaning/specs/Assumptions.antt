@@ -8,7 +8,7 @@ use Rattle.formula_meaning.specs.Tree.{Tree}
 use Rattle.qe_syntax.specs.Trees.{FormulaTrees}
 use Rattle.qe_syntax.specs.Value.{NamedPoint, TrueAt}
 use Rattle.resolved_formulas.specs.Resolving.{resolve, at_names, bound_truth}
-use Rattle.session_meaning.specs.State.{State}
+use Rattle.session_meaning.specs.State.{State, known}
 
 -- the formula, where it is an atom
 abbrev pub atoms_alone : Tree → List Atom
@@ -24,7 +24,7 @@ atoms_among (t ∷ ts) = atoms_alone t ++ atoms_among ts
 -- the formulas, resolved
 abbrev pub resolved_all : State → FormulaTrees → List Tree
 resolved_all s none = []
-resolved_all s (also g gs) = resolve s.context s.bound s.names g ∷ resolved_all s gs
+resolved_all s (also g gs) = resolve s.context (known s) s.names g ∷ resolved_all s gs
 
 -- the assumptions of a statement as normal atoms: the standing ones, and then its own
 abbrev pub assumed : State → FormulaTrees → List Atom
@@ -33,7 +33,7 @@ assumed s given = atoms_among (s.standing ++ resolved_all s given)
 -- the formulas are true at the point, as they are written
 abbrev pub AllTrueAt : State → FormulaTrees → NamedPoint → Type 0
 AllTrueAt s none p = Unit {0}
-AllTrueAt s (also g gs) p = TrueAt (bound_truth s.context s.bound s.names) s.context g p × AllTrueAt s gs p
+AllTrueAt s (also g gs) p = TrueAt (bound_truth s.context (known s) s.names) s.context g p × AllTrueAt s gs p
 
 -- the assumptions of a statement are true at the point: the standing ones, and its own as they are written
 abbrev pub Hold : State → FormulaTrees → NamedPoint → Type 0

@@ -15,7 +15,7 @@ use Rattle.qe_syntax.specs.Value as written
 use Rattle.resolved_formulas.specs.Resolving.{resolve, at_names, bound_truth}
 use Rattle.formula_meaning.specs.Members.{HasTwoMembers}
 use Rattle.case_theory.specs.FromSimplifiedFormulas.{IsReduced}
-use Rattle.session_meaning.specs.State.{State}
+use Rattle.session_meaning.specs.State.{State, known}
 use Rattle.session_meaning.specs.Assumptions.{Hold, assumed}
 use Rattle.session_meaning.specs.FormulaAnswers.{negation_normal_of}
 
@@ -30,20 +30,20 @@ Turned false T = ¬ T
 -- guard is true exactly where the answers make true what stands behind the block, or for a block of all its negation.
 pub record IsCaseOf (s : State) (f : FormulaTree) (given : FormulaTrees) (k : Case) : Type 0 where
   pub free : IsQuantifierFree k.guard
-  pub names : (n : ℕ) → IsFree k.guard n → IsFree (resolve s.context s.bound s.names f) n
+  pub names : (n : ℕ) → IsFree k.guard n → IsFree (resolve s.context (known s) s.names f) n
   pub reduced : IsReduced s.context k.guard (assumed s given)
   pub possible : k.guard ≢ No
   pub normal : Every (IsNormal s.context) k.guard
   pub members : HasTwoMembers k.guard
   pub numbers : Every IsAtomInLimit k.guard
-  pub once : IsPermutation (case_names (resolve s.context s.bound s.names f)) (answer_names k.answers)
-  pub answers : AreAnswersOver s.context (IsFree (resolve s.context s.bound s.names f)) k.answers
+  pub once : IsPermutation (case_names (resolve s.context (known s) s.names f)) (answer_names k.answers)
+  pub answers : AreAnswersOver s.context (IsFree (resolve s.context (known s) s.names f)) k.answers
   pub exact : (p : written.NamedPoint) → Of s.context p → Hold s given p
-      → Holds s.context k.answers (case_matrix (resolve s.context s.bound s.names f)) (at_names s.names p) ↔ TrueAt s.context k.guard (at_names s.names p)
+      → Holds s.context k.answers (case_matrix (resolve s.context (known s) s.names f)) (at_names s.names p) ↔ TrueAt s.context k.guard (at_names s.names p)
 
 -- Each is such a case. At every point of the theory where the assumptions are true, some guard is true exactly where the command's formula is, as it is written,
 -- or for a block of all where it is not.
 pub record IsCaseAnswer (s : State) (f : FormulaTree) (given : FormulaTrees) (ks : List Case) : Type 0 where
   pub each : EachOf (IsCaseOf s f given) ks
   pub together : (p : written.NamedPoint) → Of s.context p → Hold s given p
-      → Turned (case_sign (negation_normal_of s f)) (written.TrueAt (bound_truth s.context s.bound s.names) s.context f p) ↔ TrueAt s.context (Or (guards_of ks)) (at_names s.names p)
+      → Turned (case_sign (negation_normal_of s f)) (written.TrueAt (bound_truth s.context (known s) s.names) s.context f p) ↔ TrueAt s.context (Or (guards_of ks)) (at_names s.names p)

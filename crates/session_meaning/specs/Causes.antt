@@ -14,7 +14,7 @@ use Rattle.session_meaning.specs.declared.TheConstants.{MOST_SUBFORMULAS}
 use Rattle.session_meaning.specs.declared.line.StatementError.{StatementError}
 use Rattle.session_meaning.specs.declared.line.StatementError.TheVariants as error
 use Rattle.session_meaning.specs.Words.{order, before}
-use Rattle.session_meaning.specs.State.{State}
+use Rattle.session_meaning.specs.State.{State, known}
 use Rattle.session_meaning.specs.Uses.{Use, HasManyNodes, formula_line}
 use Rattle.session_meaning.specs.Meaning.{Meaning, Determines, IsMeasureOf}
 
@@ -52,18 +52,18 @@ module _ (m : Meaning) (s : State) (limit : ℕ) (u : Use) where
   IsCause error.Lexical = ⊥
   IsCause error.Nesting = ⊥
   IsCause error.Syntax = ⊥
-  IsCause error.Unbound = SomeFormula (IsUnbound s.bound) m.formulas
-  IsCause error.FormulaAsTerm = SomeFormula (NamesFormulaAsTerm s.bound) m.formulas ⊎ SomeOf (IsBound s.bound) m.further
+  IsCause error.Unbound = SomeFormula (IsUnbound (known s)) m.formulas
+  IsCause error.FormulaAsTerm = SomeFormula (NamesFormulaAsTerm (known s)) m.formulas ⊎ SomeOf (IsBound (known s)) m.further
   IsCause error.Nonlinear = SomeFormula (IsNonlinear s.context (place s.names)) m.formulas
   IsCause error.Division = SomeFormula (Divides s.context (place s.names)) m.formulas
   IsCause error.CongruenceContext = SomeFormula (CongruenceInFields s.context) m.formulas
   IsCause error.Context = m.must.context s limit
   IsCause error.Modulus = SomeFormula (IsBadModulus s.context (place s.names)) m.formulas
-  IsCause error.Depth = SomeFormula (IsTooDeep s.bound) m.formulas
+  IsCause error.Depth = SomeFormula (IsTooDeep (known s)) m.formulas
   IsCause error.Point = m.must.point s limit
   IsCause error.Unvalued = m.must.unvalued s limit
   IsCause error.Quantified = m.must.quantified s limit
-  IsCause error.Overflow = SomeFormula (OverflowsInReading s.context s.bound (place s.names)) m.formulas ⊎ m.must.overflow s limit
+  IsCause error.Overflow = SomeFormula (OverflowsInReading s.context (known s) (place s.names)) m.formulas ⊎ m.must.overflow s limit
   IsCause error.Nodes = m.must.nodes s limit
   IsCause error.Bindings = HasNoRoom s.bound u.target ⊎ ((t : Tree) × Determines m.answer s t × IsTooLarge u.target t)
   IsCause error.Text = (u.printed ≡ true) × (HasLongLine m s u ⊎ m.must.text s limit)

@@ -20,14 +20,14 @@ use Rattle.redlog_printer.specs.Text.{tree_text}
 use Rattle.clean_forms.specs.Clean.{IsCleanForm}
 use Rattle.clean_forms.specs.Plain.{plain_form}
 use Rattle.case_theory.specs.FromSimplifiedFormulas.{size, atom_measure, IsReduced}
-use Rattle.session_meaning.specs.State.{State}
+use Rattle.session_meaning.specs.State.{State, known}
 use Rattle.session_meaning.specs.Assumptions.{Hold, assumed}
 
 -- What follows is said of a state in which the variables of the command have their numbers.
 
 -- the negation normal form of a resolved formula
 abbrev pub negation_normal_of : State → FormulaTree → Tree
-negation_normal_of s f = normal_form negated_normal (resolve s.context s.bound s.names f)
+negation_normal_of s f = normal_form negated_normal (resolve s.context (known s) s.names f)
 
 -- ---- prenex forms
 
@@ -38,8 +38,8 @@ pub record IsPrenexAnswer (s : State) (limit : ℕ) (f : FormulaTree) (t : Tree)
   pub form : t ≡ prenex_of s.context (length s.names) (negation_normal_of s f)
   pub prenex : IsPrenex t
   pub fewest : block_count t ≡ fewest_blocks (negation_normal_of s f)
-  pub truth : (p : written.NamedPoint) → Of s.context p → written.TrueAt (bound_truth s.context s.bound s.names) s.context f p ↔ TrueAt s.context t (at_names s.names p)
-  pub names : (n : ℕ) → IsFree t n ↔ IsFree (resolve s.context s.bound s.names f) n
+  pub truth : (p : written.NamedPoint) → Of s.context p → written.TrueAt (bound_truth s.context (known s) s.names) s.context f p ↔ TrueAt s.context t (at_names s.names p)
+  pub names : (n : ℕ) → IsFree t n ↔ IsFree (resolve s.context (known s) s.names f) n
   pub normal : Every (IsNormal s.context) t
   pub members : HasTwoMembers t
   pub small : nodes (negation_normal_of s f) ≤ limit
@@ -57,7 +57,7 @@ pub record HasNewNames (names : List (List ℕ)) (f : Tree) (after : List (List 
 -- longer text, and no other names, free or quantified. Its atoms are normal, and its lists have two members at least.
 pub record IsSimplification (s : State) (f : FormulaTree) (given : FormulaTrees) (t : Tree) : Type 0 where
   pub reduced : IsReduced s.context t (assumed s given)
-  pub truth : (p : written.NamedPoint) → Of s.context p → Hold s given p → written.TrueAt (bound_truth s.context s.bound s.names) s.context f p ↔ TrueAt s.context t (at_names s.names p)
+  pub truth : (p : written.NamedPoint) → Of s.context p → Hold s given p → written.TrueAt (bound_truth s.context (known s) s.names) s.context f p ↔ TrueAt s.context t (at_names s.names p)
   pub names : (n : ℕ) → IsFree t n → IsFree (negation_normal_of s f) n
   pub quantified : (n : ℕ) → EveryBound (λ x. ¬ (x ≡ n)) (negation_normal_of s f) → EveryBound (λ x. ¬ (x ≡ n)) t
   pub nodes : nodes t ≤ nodes (negation_normal_of s f)
@@ -71,7 +71,7 @@ pub record IsSimplification (s : State) (f : FormulaTree) (given : FormulaTrees)
 -- normal, and its lists have two members at least.
 pub record IsCleanAnswer (s : State) (j : Junction) (f : FormulaTree) (t : Tree) : Type 0 where
   pub clean : IsCleanForm s.context j t
-  pub truth : (p : written.NamedPoint) → Of s.context p → written.TrueAt (bound_truth s.context s.bound s.names) s.context f p ↔ TrueAt s.context t (at_names s.names p)
+  pub truth : (p : written.NamedPoint) → Of s.context p → written.TrueAt (bound_truth s.context (known s) s.names) s.context f p ↔ TrueAt s.context t (at_names s.names p)
   pub names : (n : ℕ) → IsFree t n → IsFree (negation_normal_of s f) n
   pub nodes : nodes t ≤ nodes (plain_form j (negation_normal_of s f))
   pub text : length (tree_text s.names t) ≤ length (tree_text s.names (plain_form j (negation_normal_of s f)))
@@ -83,9 +83,9 @@ pub record IsCleanAnswer (s : State) (j : Junction) (f : FormulaTree) (t : Tree)
 -- at least.
 pub record IsCondition (s : State) (limit : ℕ) (f : FormulaTree) (given : FormulaTrees) (t : Tree) : Type 0 where
   pub free : IsQuantifierFree t
-  pub names : (n : ℕ) → IsFree t n → IsFree (resolve s.context s.bound s.names f) n
+  pub names : (n : ℕ) → IsFree t n → IsFree (resolve s.context (known s) s.names f) n
   pub reduced : IsReduced s.context t (assumed s given)
-  pub truth : (p : written.NamedPoint) → Of s.context p → Hold s given p → written.TrueAt (bound_truth s.context s.bound s.names) s.context f p ↔ TrueAt s.context t (at_names s.names p)
+  pub truth : (p : written.NamedPoint) → Of s.context p → Hold s given p → written.TrueAt (bound_truth s.context (known s) s.names) s.context f p ↔ TrueAt s.context t (at_names s.names p)
   pub small : nodes t ≤ limit
   pub normal : Every (IsNormal s.context) t
   pub members : HasTwoMembers t

@@ -19,7 +19,7 @@ use Rattle.point_grid.specs.Grids.{grid_of, GridPasses, HasTooMany}
 use Rattle.point_grid.specs.PointPasses.{SomePointPasses}
 use Rattle.session_meaning.specs.Points.{MeanNoPoint}
 use Rattle.session_meaning.specs.Places.{by_names}
-use Rattle.session_meaning.specs.State.{State}
+use Rattle.session_meaning.specs.State.{State, known}
 
 -- ---- axes
 
@@ -86,7 +86,7 @@ pub record TruthsPass (s : State) (f : FormulaTree) (written : List GridAxis) : 
   pub axes : List Axis
   pub meant : AreAxes (place s.names) written axes
   pub few : ¬ (HasTooMany axes)
-  pub passes : SomePointPasses (resolve s.context s.bound s.names f) (grid_of axes)
+  pub passes : SomePointPasses (resolve s.context (known s) s.names f) (grid_of axes)
 
 -- The truths of the formula as it is written, at the points of the grid in their order: all choices of a value of each axis, that of the first axis changing slowest.
 pub record IsGridAnswer (s : State) (f : FormulaTree) (written : List GridAxis) (truths : List Bool) : Type 0 where
@@ -94,7 +94,7 @@ pub record IsGridAnswer (s : State) (f : FormulaTree) (written : List GridAxis) 
   pub meant : AreAxes (place s.names) written axes
   pub count : length truths ≡ length (points_of (grid_of axes))
   pub each : (i : ℕ) (p : Point ℕ) (truth : Bool) → slice_get (points_of (grid_of axes)) i ≡ Some p → slice_get truths i ≡ Some truth
-      → IsTrue truth ↔ TrueAt (bound_truth s.context s.bound s.names) s.context f (by_names s.names p)
+      → IsTrue truth ↔ TrueAt (bound_truth s.context (known s) s.names) s.context f (by_names s.names p)
 
 -- a truth as a digit
 abbrev pub truth_digit : Bool → ℕ

@@ -14,6 +14,7 @@ pub mod Uses
 pub mod Meaning
 pub mod FormulaGiven
 pub mod Causes
+pub mod Inside
 pub mod Reply
 pub mod FromAnswerTexts
 pub mod FromCleanForms

@@ -17,6 +17,8 @@ use Rattle.fourier_motzkin.specs.FromSampleReference.{reference_sample, Value}
 use Rattle.qe_syntax.specs.declared.entries.PointEntry.{PointEntry}
 use Rattle.qe_syntax.specs.Point.{PassesLimit, IsPointOf}
 use Rattle.statement_syntax.specs.Statements.{CommandTree, Echo, Nnf, Pnf, Dnf, Cnf, Simpl, Qe, Qea, Holds, Sample, Grid, Certify, Check, Least}
+use Rattle.qe_syntax.specs.Holes.{Nests}
+use Rattle.statement_syntax.specs.Texts.{written_out}
 use Rattle.qe_syntax.specs.Trees.{FormulaTree, FormulaTrees}
 use Rattle.qe_syntax.specs.Value.{NamedPoint}
 use Rattle.formula_tree.specs.Names.{with_name, place}
@@ -27,7 +29,7 @@ use Rattle.redlog_printer.specs.Writing.{text_limit}
 use Rattle.answer_texts.specs.Answers.{cases_text}
 use Rattle.session_meaning.specs.Words.{truth_text}
 use Rattle.session_meaning.specs.Standing.{grown, standing_text}
-use Rattle.session_meaning.specs.State.{State, with_names}
+use Rattle.session_meaning.specs.State.{State, with_names, known}
 use Rattle.session_meaning.specs.Uses.{Use, IsDirectUse}
 use Rattle.session_meaning.specs.FormulaAnswers.{negation_normal_of, IsPrenexAnswer, HasNewNames, IsSimplification, IsCleanAnswer, IsCondition}
 use Rattle.session_meaning.specs.Points.{MeanNoPoint, HasUnvalued, IsQuantified, TruthPasses, IsTruth}
@@ -80,6 +82,10 @@ pub record Meaning : Type 1 where
 -- the variables in the order of the text: names in terms, after quantifiers, in assumptions and in a point
 abbrev pub variables : Meaning → List (List ℕ)
 variables m = all_variables m.formulas ++ m.further
+
+-- the same of the whole text, where these commands stand inside the formulas
+abbrev pub text_variables : Nests → Meaning → List (List ℕ)
+text_variables ns m = all_variables (written_out ns m.formulas) ++ m.further
 
 -- the state with the new variables after its names
 abbrev pub numbered : Meaning → State → State
@@ -142,7 +148,7 @@ at_point f es may tells = record (of_formula f none may (OfText tells)) {
   further = map (λ (e : PointEntry). e.name) es;
   must = record no_causes {
     point = λ s limit. MeanNoPoint s.context es;
-    unvalued = λ s limit. HasUnvalued s.bound (place s.names) f es;
+    unvalued = λ s limit. HasUnvalued (known s) (place s.names) f es;
     overflow = λ s limit. PassesLimit es;
   };
 }
@@ -162,12 +168,12 @@ of_constraints written must tells = record {
 -- a command that gives a clean form: the places of atoms of the plain form are counted
 abbrev pub clean : Junction → FormulaTree → Meaning
 clean j f = record (of_formula f none (counts (λ s. literals j (negation_normal_of s f))) (OfFormula (measured (λ s limit t. t ≡ plain_form j (negation_normal_of s f)) (λ s limit t. IsCleanAnswer s j f t)))) {
-  must = record no_causes { quantified = λ s limit. IsQuantified s.bound f };
+  must = record no_causes { quantified = λ s limit. IsQuantified (known s) f };
 }
 
 -- the formula with its variables numbered, its bound names as their trees, and its atoms in normal form
 abbrev pub resolved : FormulaTree → State → Tree
-resolved f s = resolve s.context s.bound s.names f
+resolved f s = resolve s.context (known s) s.names f
 
 -- the normal form of an atom whose names are chosen passes the limit of numbers, where the negation normal form has no more nodes than the limit
 abbrev pub RenamingPasses : FormulaTree → Fact
@@ -191,11 +197,11 @@ HasLongCases f s limit = (ks : List Case) × (cost : ℕ) × (reference_cases s.
 
 -- The reference elimination of a formula with quantifiers stops at the point. Nodes are counted before the point is put in.
 abbrev pub TruthStops : FormulaTree → List PointEntry → Stop → Fact
-TruthStops f es e s limit = IsQuantified s.bound f × ((point : NamedPoint) × IsPointOf es point × (reference_at s.context limit (at_names s.names point) (resolved f s) ≡ stopped e))
+TruthStops f es e s limit = IsQuantified (known s) f × ((point : NamedPoint) × IsPointOf es point × (reference_at s.context limit (at_names s.names point) (resolved f s) ≡ stopped e))
 
 -- a number passes the limit where a formula without quantifiers is evaluated at the point
 abbrev pub ValuePasses : FormulaTree → List PointEntry → Fact
-ValuePasses f es s limit = (¬ (IsQuantified s.bound f)) × TruthPasses s f es
+ValuePasses f es s limit = (¬ (IsQuantified (known s) f)) × TruthPasses s f es
 
 -- the reference elimination of the formula of a sample stops at the point, or the sample that it leads to does
 abbrev pub SampleStops : FormulaTree → List PointEntry → Stop → Fact
@@ -223,8 +229,8 @@ meaning (Grid f axes) = record (of_formula f none (record no_causes { overflow =
   further = map (λ (e : PointEntry). e.name) (lows axes);
   must = record no_causes {
     point = λ s limit. MeanNoGrid s.context axes;
-    unvalued = λ s limit. HasUnvalued s.bound (place s.names) f (lows axes);
-    quantified = λ s limit. IsQuantified s.bound f;
+    unvalued = λ s limit. HasUnvalued (known s) (place s.names) f (lows axes);
+    quantified = λ s limit. IsQuantified (known s) f;
     overflow = λ s limit. PassesGrid (place s.names) axes;
     nodes = λ s limit. HasTooManyPoints (place s.names) axes;
   };

@@ -17,7 +17,7 @@ use Rattle.resolved_formulas.specs.Resolving.{BoundTrees, resolve, at_names, bou
 use Rattle.resolved_formulas.specs.Causes.{atom_in_place}
 use Rattle.formula_tree.specs.Quantified.{has_quantifier}
 use Rattle.free_names.specs.Entries.{HasEntryAt}
-use Rattle.session_meaning.specs.State.{State}
+use Rattle.session_meaning.specs.State.{State, known}
 
 -- the entries mean no point of the theory: a name stands twice, a denominator is 0, or over the integers a value is not whole
 abbrev pub MeanNoPoint : Context → List PointEntry → Type 0
@@ -40,10 +40,10 @@ SomeAtomPassesAt f q = (a : Atom) × Among (subtrees f) (One a) × ValuePasses (
 pub record TruthPasses (s : State) (f : FormulaTree) (es : List PointEntry) : Type 0 where
   pub point : NamedPoint
   pub meant : IsPointOf es point
-  pub passes : SomeAtomPassesAt (resolve s.context s.bound s.names f) (at_names s.names point)
+  pub passes : SomeAtomPassesAt (resolve s.context (known s) s.names f) (at_names s.names point)
 
 -- the answer is the truth of the formula as it is written, at the point that the entries mean
 pub record IsTruth (s : State) (f : FormulaTree) (es : List PointEntry) (answer : Bool) : Type 0 where
   pub point : NamedPoint
   pub meant : IsPointOf es point
-  pub truth : IsTrue answer ↔ TrueAt (bound_truth s.context s.bound s.names) s.context f point
+  pub truth : IsTrue answer ↔ TrueAt (bound_truth s.context (known s) s.names) s.context f point

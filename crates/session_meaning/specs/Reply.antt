@@ -1,9 +1,10 @@
 -- What a statement is answered with in a state, and the state after it.
 use Rattle.std.specs.Prelude.{◌≡◌, ◌⊎◌, ◌≤◌, ℕ, List, [], length, Bool, true, false, Some, None, Result, Ok, Err}
+use Rattle.std.specs.List.{fold}
 use Rattle.formula_meaning.specs.Tree.{Tree, tree_distinct}
 use Rattle.statement_syntax.specs.Statements.{ActionTree, Empty, Ignored, Finish, Choose, Say, Assign, Assume, Retract, StatementTree}
 use Rattle.qe_syntax.specs.Trees.{FormulaTrees}
-use Rattle.qe_syntax.specs.Holes.{alone, is_some_command}
+use Rattle.qe_syntax.specs.Holes.{Nests}
 use Rattle.redlog_reader.specs.Statement.{Spells, Unread}
 use Rattle.redlog_tokens.specs.declared.token.ReadError.TheVariants as reading
 use Rattle.redlog_printer.specs.Writing.{text_limit}
@@ -13,11 +14,13 @@ use Rattle.session_meaning.specs.declared.line.Line.TheVariants as line
 use Rattle.session_meaning.specs.declared.line.StatementError.{StatementError}
 use Rattle.session_meaning.specs.declared.line.StatementError.TheVariants as error
 use Rattle.session_meaning.specs.Words.{context_text}
-use Rattle.session_meaning.specs.State.{State, with_names, with_bound, with_standing, theory_of, chosen}
+use Rattle.session_meaning.specs.State.{State, with_names, with_bound, with_standing, with_answers, theory_of, chosen}
 use Rattle.session_meaning.specs.Standing.{grown, standing_text}
-use Rattle.session_meaning.specs.Meaning.{Meaning, Answer, OfFormula, OfText, MayGive, numbered, meaning, assumption_meaning}
+use Rattle.session_meaning.specs.Meaning.{Meaning, Answer, OfFormula, OfText, MayGive, text_variables, meaning, assumption_meaning}
 use Rattle.session_meaning.specs.Uses.{formula_line}
 use Rattle.session_meaning.specs.Causes.{IsFirst, IsAccepted}
+use Rattle.session_meaning.specs.Inside.{GivesAll, SomeStops}
+use Rattle.formula_tree.specs.Names.{with_name}
 
 -- the line is this text, where it is printed, and then it is within the limit of a line
 abbrev pub IsLine : Bool → List ℕ → Line → Type 0
@@ -60,40 +63,66 @@ pub record AnswersAssumptions (given : FormulaTrees) (s : State) (limit : ℕ) (
 
 -- ---- statements
 
--- the line of an accepted statement, and the state after it
+-- the variables of a statement in the order of the text, where these commands stand inside its formulas
+abbrev pub statement_variables : Nests → ActionTree → List (List ℕ)
+statement_variables ns Empty = []
+statement_variables ns Ignored = []
+statement_variables ns Finish = []
+statement_variables ns (Choose setting) = []
+statement_variables ns (Say c) = text_variables ns (meaning c)
+statement_variables ns (Assign x c) = text_variables ns (meaning c)
+statement_variables ns (Assume given) = text_variables ns (assumption_meaning given)
+statement_variables ns Retract = []
+
+-- the state with the new variables of the statement after its names
+abbrev pub with_variables : Nests → ActionTree → State → State
+with_variables ns a s = with_names s (fold with_name s.names (statement_variables ns a))
+
+-- The commands inside the statement are answered, where its variables have their numbers. The state that is reached has their answers and the names after them.
+pub record IsReached (t : StatementTree) (s : State) (limit : ℕ) (reached : State) : Type 0 where
+  pub answers : List Tree
+  pub names : List (List ℕ)
+  pub given : GivesAll t.inner (with_variables t.inner t.action s) limit answers names
+  pub is : reached ≡ with_answers (with_names s names) answers
+
+-- The line of an accepted statement, and the state after it. The statement is looked at in a state with the answers of the commands inside it, in which its variables have
+-- their numbers.
 abbrev pub Answers : State → ℕ → Bool → ActionTree → Line → State → Type 0
 Answers s limit printed Empty answer next = (answer ≡ line.Nothing) × (next ≡ s)
 Answers s limit printed Ignored answer next = (answer ≡ line.Nothing) × (next ≡ s)
 Answers s limit printed Finish answer next = (answer ≡ line.Finished) × (next ≡ s)
 Answers s limit printed (Choose setting) answer next = IsLine printed (context_text (theory_of setting)) answer × (next ≡ chosen s (theory_of setting))
-Answers s limit printed (Say c) answer next = AnswersSaid (meaning c) (numbered (meaning c) s) limit printed answer next
-Answers s limit printed (Assign x c) answer next = AnswersAssignment (meaning c) (numbered (meaning c) s) limit printed x answer next
-Answers s limit printed (Assume given) answer next = AnswersAssumptions given (numbered (assumption_meaning given) s) limit printed answer next
+Answers s limit printed (Say c) answer next = AnswersSaid (meaning c) s limit printed answer next
+Answers s limit printed (Assign x c) answer next = AnswersAssignment (meaning c) s limit printed x answer next
+Answers s limit printed (Assume given) answer next = AnswersAssumptions given s limit printed answer next
 Answers s limit printed Retract answer next = IsLine printed (standing_text s.names []) answer × (next ≡ with_standing s [])
 
--- the word with which a statement is refused
+-- the word with which the statement is refused, by itself
 abbrev pub RefusesAction : State → ℕ → Bool → ActionTree → StatementError → Type 0
 RefusesAction s limit printed Empty e = ⊥
 RefusesAction s limit printed Ignored e = ⊥
 RefusesAction s limit printed Finish e = ⊥
 RefusesAction s limit printed (Choose setting) e = ⊥
-RefusesAction s limit printed (Say c) e = IsFirst (meaning c) (numbered (meaning c) s) limit (record { target = None; printed = printed }) e
-RefusesAction s limit printed (Assign x c) e = IsFirst (meaning c) (numbered (meaning c) s) limit (record { target = Some x; printed = printed }) e
-RefusesAction s limit printed (Assume given) e = IsFirst (assumption_meaning given) (numbered (assumption_meaning given) s) limit (record { target = None; printed = printed }) e
+RefusesAction s limit printed (Say c) e = IsFirst (meaning c) s limit (record { target = None; printed = printed }) e
+RefusesAction s limit printed (Assign x c) e = IsFirst (meaning c) s limit (record { target = Some x; printed = printed }) e
+RefusesAction s limit printed (Assume given) e = IsFirst (assumption_meaning given) s limit (record { target = None; printed = printed }) e
 RefusesAction s limit printed Retract e = ⊥
 
--- The word with which a statement is refused. Commands inside formulas are read and not yet answered: a statement with one has the word syntax.
+-- a command inside the statement is refused with the word, or each is answered and the statement is refused by itself
 abbrev pub RefusesStatement : State → ℕ → StatementTree → StatementError → Type 0
-RefusesStatement s limit t e = ((t.inner ≡ alone) × RefusesAction s limit t.printed t.action e) ⊎ ((is_some_command t.inner ≡ true) × (e ≡ error.Syntax))
+RefusesStatement s limit t e = SomeStops t.inner (with_variables t.inner t.action s) limit e ⊎ ((reached : State) × IsReached t s limit reached × RefusesAction reached limit t.printed t.action e)
 
 -- ---- pieces
 
--- the bytes of a piece spell a statement that is answered with the line
+-- The bytes of a piece spell a statement, the commands inside it are answered, and it is answered with the line. Their answers are given up after it.
 pub record IsAnswer (s : State) (limit : ℕ) (piece : List ℕ) (answer : Line) (next : State) : Type 0 where
   pub statement : StatementTree
   pub spelled : Spells piece statement
-  pub plain : statement.inner ≡ alone
-  pub answered : Answers s limit statement.printed statement.action answer next
+  pub state : State
+  pub reached : IsReached statement s limit state
+  pub after : State
+  pub answered : Answers state limit statement.printed statement.action answer after
+  pub left : next ≡ with_answers after []
 
 -- the bytes spell a statement that is refused with the word
 pub record SpellsRefused (s : State) (limit : ℕ) (piece : List ℕ) (e : StatementError) : Type 0 where
@@ -106,7 +135,7 @@ abbrev pub IsRefused : State → ℕ → List ℕ → State → StatementError �
 IsRefused s limit piece next error.Long = (next ≡ s) × Unread piece reading.Long
 IsRefused s limit piece next error.Lexical = (next ≡ s) × Unread piece reading.Lexical
 IsRefused s limit piece next error.Nesting = (next ≡ s) × Unread piece reading.Nesting
-IsRefused s limit piece next error.Syntax = (next ≡ s) × (Unread piece reading.Syntax ⊎ SpellsRefused s limit piece error.Syntax)
+IsRefused s limit piece next error.Syntax = (next ≡ s) × Unread piece reading.Syntax
 IsRefused s limit piece next error.Unbound = (next ≡ s) × SpellsRefused s limit piece error.Unbound
 IsRefused s limit piece next error.FormulaAsTerm = (next ≡ s) × SpellsRefused s limit piece error.FormulaAsTerm
 IsRefused s limit piece next error.Nonlinear = (next ≡ s) × SpellsRefused s limit piece error.Nonlinear

@@ -11,13 +11,13 @@ use Rattle.qe_syntax.specs.Point.{IsPointOf}
 use Rattle.qe_syntax.specs.Trees.{FormulaTree}
 use Rattle.qe_syntax.specs.Value as written
 use Rattle.resolved_formulas.specs.Resolving.{resolve, at_names, bound_truth}
-use Rattle.session_meaning.specs.State.{State}
+use Rattle.session_meaning.specs.State.{State, known}
 use Rattle.session_meaning.specs.Cases.{Turned}
 use Rattle.session_meaning.specs.FormulaAnswers.{negation_normal_of}
 
 -- the formula is true at the point as it is written, or for a leading block of all it is not
 abbrev pub HasSample : State → FormulaTree → written.NamedPoint → Type 0
-HasSample s f p = Turned (case_sign (negation_normal_of s f)) (written.TrueAt (bound_truth s.context s.bound s.names) s.context f p)
+HasSample s f p = Turned (case_sign (negation_normal_of s f)) (written.TrueAt (bound_truth s.context (known s) s.names) s.context f p)
 
 -- numerator and denominator of the value are within the limit
 abbrev pub IsValueInLimit : Value → Type 0
@@ -27,10 +27,10 @@ IsValueInLimit v = InLimit v.at.numerator × InLimit v.at.denominator
 -- them, what stands behind the block, or for a block of all its negation, is true at the point.
 pub record AreSampleValues (s : State) (f : FormulaTree) (p : written.NamedPoint) (values : List Value) : Type 0 where
   pub there : HasSample s f p
-  pub in_order : value_names values ≡ case_names (resolve s.context s.bound s.names f)
+  pub in_order : value_names values ≡ case_names (resolve s.context (known s) s.names f)
   pub each : EachOf (IsValue s.context) values
   pub numbers : EachOf IsValueInLimit values
-  pub exact : TrueAt s.context (case_matrix (resolve s.context s.bound s.names f)) (with_values (at_names s.names p) values)
+  pub exact : TrueAt s.context (case_matrix (resolve s.context (known s) s.names f)) (with_values (at_names s.names p) values)
 
 -- such values, or none where there are none
 abbrev pub IsSample : State → FormulaTree → written.NamedPoint → Option (List Value) → Type 0

@@ -22,7 +22,7 @@ use Rattle.least_theory.specs.LeastFraction.{IsLeastFraction}
 use Rattle.answer_texts.specs.Points.{fraction_text, point_text}
 use Rattle.session_meaning.specs.Assumptions.{AllTrueAt}
 use Rattle.session_meaning.specs.Places.{by_names}
-use Rattle.session_meaning.specs.State.{State}
+use Rattle.session_meaning.specs.State.{State, known}
 
 -- ---- the problem
 
@@ -45,7 +45,7 @@ problem_of written target = quantified_names Exists (problem_names written targe
 
 -- the problem, resolved
 abbrev pub resolved_problem : State → FormulaTrees → TermTree → Tree
-resolved_problem s written target = resolve s.context s.bound s.names (problem_of written target)
+resolved_problem s written target = resolve s.context (known s) s.names (problem_of written target)
 
 -- the number of the target's name
 abbrev pub target_number : State → ℕ

@@ -2,6 +2,8 @@ pub mod NameLemmas
 pub mod VariableLemmas
 pub mod SoundLemmas
 pub mod BindingLemmas
+pub mod KnownLemmas
+pub mod BesideLemmas
 pub mod StateLemmas
 pub mod FromAnswerTexts
 pub mod FromPrenexForms

@@ -25,8 +25,7 @@ use Rattle.qe_syntax.specs.declared.tree.Relation.{Relation}
 use Rattle.qe_syntax.specs.Trees.{WrittenAtom, Compare, Cong, Ncong, Bound, FormulaTree, FormulaTrees}
 use Rattle.qe_syntax.specs.Value.{Mentions as Names}
 use Rattle.qe_syntax.specs.Valued.{IsIn}
-use Rattle.qe_syntax.specs.Proper.{AreFormulas}
-use Rattle.qe_syntax.specs.Writable.{IsWritableFormula, AreWritableFormulas}
+use Rattle.qe_syntax.specs.Proper.{AreFormulas, IsProperFormula, AreProperFormulas}
 use Rattle.formula_tree.specs.Bindings.{bound_to}
 use Rattle.resolved_formulas.specs.RationalForms.{RationalForm, Missing}
 use Rattle.resolved_formulas.specs.Resolving.{BoundTrees, resolve, resolved_atom, compared, congruent}
@@ -226,7 +225,7 @@ proper_two (plain.also f plain.none) h = absurd h
 proper_two (plain.also f (plain.also g fs)) h = tt
 
 mutual
-  proper_members : (f : FormulaTree) → IsWritableFormula f → HasTwoMembers f
+  proper_members : (f : FormulaTree) → IsProperFormula f → HasTwoMembers f
   proper_members Yes h = tt
   proper_members No h = tt
   proper_members (One a) h = tt
@@ -239,7 +238,7 @@ mutual
   proper_members (Ex x f) h = proper_members f h.1
   proper_members (All x f) h = proper_members f h.1
 
-  all_proper_members : (fs : FormulaTrees) → AreWritableFormulas fs → HaveTwoMembers fs
+  all_proper_members : (fs : FormulaTrees) → AreProperFormulas fs → HaveTwoMembers fs
   all_proper_members plain.none h = tt
   all_proper_members (plain.also f fs) h = (proper_members f h.0, all_proper_members fs h.1)
 
@@ -247,7 +246,7 @@ mutual
 
 -- an accepted formula, resolved under names that have all its variables
 pub resolved_formula : (c : Context) (bound : BoundTrees) (names : List (List ℕ)) (f : FormulaTree) → AreSessionFormulas c (length names) bound → names_after names f ≡ names
-    → IsWritableFormula f → IsResolvable c bound names f → IsSessionFormula c (length names) (resolve c bound names f)
+    → IsProperFormula f → IsResolvable c bound names f → IsSessionFormula c (length names) (resolve c bound names f)
 resolved_formula c bound names f trees numbers proper accepted =
     let by = resolved_atom c bound (place names) in
     let plain_atoms = subst (λ ns. Every (IsPlain c bound ns) f) numbers (all_plain c bound names f accepted) in

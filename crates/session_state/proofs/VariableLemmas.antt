@@ -9,6 +9,8 @@ use Rattle.qe_syntax.specs.Names.{IsVariable}
 use Rattle.qe_syntax.specs.Trees.{TermTree, TermTrees, Number, Named, Sum, Product, Quotient, Power, Negative, none, also, WrittenAtom, Compare, Cong, Ncong, Bound, FormulaTree, FormulaTrees}
 use Rattle.qe_syntax.specs.Writable.{IsWritableTerm, AreWritableTerms, IsWritableAtom, IsWritableFormula, AreWritableFormulas}
 use Rattle.qe_syntax.specs.Value.{same_name}
+use Rattle.qe_syntax.proofs.WritableLemmas.{writable_formula}
+use Rattle.session_state.specs.Scripted.{IsScripted}
 use Rattle.formula_tree.specs.Names.{with_name}
 use Rattle.resolved_formulas.specs.Resolving.{variables_of, variables_in, atom_variables, formula_variables, all_variables}
 
@@ -81,3 +83,7 @@ some_letter (b ∷ bs) h = omega arith
 pub not_empty : (names : List (List ℕ)) → AllVariables names → EachOf (λ name. 0 < length name) names
 not_empty [] h = tt
 not_empty (x ∷ xs) h = (some_letter x h.0, not_empty xs h.1)
+
+-- a formula whose names can be written is as a script has it
+pub scripted : (f : FormulaTree) → IsWritableFormula f → IsScripted f
+scripted f h = record { proper = writable_formula f h; variables = variables_of_formula f h }

@@ -11,6 +11,7 @@ pub record KeepsState (old new : SessionState) : Type 0 where
   pub names : new.names ≡ old.names
   pub bindings : new.bindings ≡ old.bindings
   pub standing : new.standing ≡ old.standing
+  pub answers : new.answers.items ≡ old.answers.items
   pub store : Keeps (IsId old.store) (tree old.store) (IsId new.store) (tree new.store)
 
 -- the same, but for new names after the old ones
@@ -19,4 +20,5 @@ pub record GrowsState (old new : SessionState) : Type 0 where
   pub names : Grows old.names new.names
   pub bindings : new.bindings ≡ old.bindings
   pub standing : new.standing ≡ old.standing
+  pub answers : new.answers.items ≡ old.answers.items
   pub store : Keeps (IsId old.store) (tree old.store) (IsId new.store) (tree new.store)

@@ -27,7 +27,7 @@ ids_bound entries = map (λ e. e.1) entries
 
 -- the state that is kept
 abbrev pub state_of : SessionState → State
-state_of d = record { context = context_of d.context; names = d.names; bound = trees_bound (tree d.store) d.bindings; standing = standing_trees d.standing }
+state_of d = record { context = context_of d.context; names = d.names; bound = trees_bound (tree d.store) d.bindings; standing = standing_trees d.standing; answers = map (tree d.store) d.answers.items }
 
 -- a formula as a session has it: its atoms are normal, its names have numbers below n, its lists have two members at least
 pub record IsSessionFormula (c : Context) (n : ℕ) (t : Tree) : Type 0 where
@@ -35,16 +35,24 @@ pub record IsSessionFormula (c : Context) (n : ℕ) (t : Tree) : Type 0 where
   pub within : IsTreeWithin n t
   pub members : HasTwoMembers t
 
--- No name has two numbers, each is one that a script can write, and each bound formula is such a one, with its numbers within the limit. So is each standing assumption.
+-- No name has two numbers, each is one that a script can write, and each bound formula is such a one, with its numbers within the limit. So is each answer, and each
+-- standing assumption is such a one.
 pub record IsSound (s : State) : Type 0 where
   pub names_once : IsDistinct same_name s.names
   pub variables : AllByRecursion IsVariable s.names
   pub formulas : (x : List ℕ) (t : Tree) → bound_to s.bound x ≡ Some t → IsSessionFormula s.context (length s.names) t
   pub numbers : (x : List ℕ) (t : Tree) → bound_to s.bound x ≡ Some t → Every IsAtomInLimit t
   pub standing : EachOf (IsSessionFormula s.context (length s.names)) s.standing
+  pub answers : EachOf (IsSessionFormula s.context (length s.names)) s.answers
+  pub answer_numbers : EachOf (Every IsAtomInLimit) s.answers
 
--- what is bound are ids of the store, no name is bound twice, and the state is sound
+-- what is bound are ids of the store, and so are the answers
+pub record HasIds (d : SessionState) : Type 0 where
+  pub bound : AreIds (IsId d.store) d.bindings
+  pub answers : AllByRecursion (IsId d.store) d.answers.items
+
+-- so it is, no name is bound twice, and the state is sound
 pub record IsSessionState (d : SessionState) : Type 0 where
-  pub ids : AreIds (IsId d.store) d.bindings
+  pub ids : HasIds d
   pub bound_once : IsDistinct same_name (keys_of d.bindings)
   pub sound : IsSound (state_of d)

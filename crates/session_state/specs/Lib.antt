@@ -1,5 +1,6 @@
 pub mod Keeping
 pub mod Growth
+pub mod Scripted
 pub mod FromAnswerTexts
 pub mod FromFormulaResolving
 pub mod FromPrenexForms

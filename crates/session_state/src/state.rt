@@ -1,6 +1,6 @@
 //! What the statements of a script share, as the session keeps it.
 
-ghost use Rattle.std.specs.Prelude.{◌≡◌, OnOk, IfOk, length};
+ghost use Rattle.std.specs.Prelude.{◌≡◌, [], OnOk, IfOk, length};
 ghost use Rattle.std.specs.Map.{keys_of};
 ghost use Rattle.atom_normal.specs.Atoms.{context_of};
 ghost use Rattle.session_state.specs.Keeping.{state_of, IsSessionState, ids_bound};
@@ -24,6 +24,8 @@ pub struct SessionState {
     pub names: Names,
     pub bindings: Bindings<FormulaId>,
     pub standing: Standing,
+    /// The answers of the commands inside the formula that is looked at, in the order of the text; none between statements.
+    pub answers: Vec<FormulaId>,
     pub store: Store,
     /// How many formulas the store had when some were given up last.
     pub(crate) kept: usize,
@@ -41,12 +43,13 @@ impl SessionState {
             names: Names::new(alloc),
             bindings: Bindings::new(alloc),
             standing: Standing::new(alloc),
+            answers: Vec::new(alloc),
             store: Store::new(alloc),
             kept: 0,
         }
     }
 
-    /// Chooses the theory. Another one than before drops what is bound and what is assumed.
+    /// Chooses the theory. Another one than before drops what is bound, what is assumed, and answers.
     pub fn choose(&mut self, context: Context)
         requires { IsSessionState self.old }
         ensures session { IsSessionState self.new }
@@ -55,15 +58,18 @@ impl SessionState {
         if self.context != context {
             self.bindings.clear();
             self.standing.clear();
+            self.answers.clear();
             self.context = context;
         }
     }
 
-    /// Gives up the formulas that nothing bound needs, where the store has more than twice those that it had the last time.
-    /// After an `Err` nothing is bound.
+    /// Between statements, gives up the formulas that nothing bound needs, where the store has more than twice those that it had the last
+    /// time. After an `Err` nothing is bound.
     pub fn tidy(&mut self) -> Result<(), AllocError>
-        requires { IsSessionState self.old }
+        requires session { IsSessionState self.old }
+        requires settled { self.old.answers.items ≡ [] }
         ensures session { IsSessionState self.new }
+        ensures settled { self.new.answers.items ≡ [] }
         ensures state { OnOk result (state_of self.new ≡ state_of self.old) }
     {
         if self.store.len() / 2 <= self.kept.saturating_add(FEW_FORMULAS) {

@@ -9,7 +9,7 @@ pub use Rattle.session_meaning.specs.Meaning.{MayGive, Meaning, OwnCauses, meani
 pub use Rattle.session_meaning.specs.Places.{by_names}
 pub use Rattle.session_meaning.specs.Reply.{IsLine, RefusesAction, Tells}
 pub use Rattle.session_meaning.specs.Samples.{sample_text}
-pub use Rattle.session_meaning.specs.State.{State, chosen, first_state, with_bound, with_names}
+pub use Rattle.session_meaning.specs.State.{State, is_same_theory, chosen, first_state, known, with_answers, with_bound, with_names}
 pub use Rattle.session_meaning.specs.Targets.{Attained, Infeasible, IsAttained, SaysLeast, TargetAnswer, TargetStops, Unbounded, at_target, problem_names, problem_of, resolved_problem, target_name, target_number, target_text, together}
 pub use Rattle.session_meaning.specs.Uses.{Use, formula_line}
 pub use Rattle.session_meaning.specs.Words.{before, order, truth_text}

@@ -1,3 +1,4 @@
 pub mod InnerCommands
 pub mod Plain
 pub mod Constrained
+pub mod PlainAssumptions

@@ -1,5 +1,7 @@
 pub mod Statements
 pub mod Inner
+pub mod Texts
+pub mod LastTokens
 pub mod CodeTrees
 pub mod Constraints
 pub mod ConstraintLists

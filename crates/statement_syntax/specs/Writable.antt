@@ -1,13 +1,15 @@
 -- What the reader gives: statements whose formulas and entries are proper, with names that a script can write.
-use Rattle.std.specs.Prelude.{◌≡◌, ◌⊎◌, ℕ, List}
+use Rattle.std.specs.Prelude.{ℕ, List, length, nat_lt, if◌then◌else◌}
 use Rattle.std.specs.List.{AllByRecursion}
 use Rattle.qe_syntax.specs.declared.tree.Literal.{Literal}
 use Rattle.qe_syntax.specs.Names.{IsVariable}
-use Rattle.qe_syntax.specs.Proper.{IsNumeral, IsSigned, IsFormulaOver, AreFormulasOver}
-use Rattle.qe_syntax.specs.Trees.{FormulaTree, FormulaTrees}
-use Rattle.qe_syntax.specs.Holes.{InnerTree, Nest, Nests, nest, alone, beside, inner_name}
+use Rattle.qe_syntax.specs.Proper.{IsNumeral, IsSigned}
+use Rattle.formula_meaning.specs.Formula.{Yes, One}
+use Rattle.formula_meaning.specs.Replaced.{replaced}
+use Rattle.qe_syntax.specs.Trees.{WrittenAtom, Compare, Cong, Ncong, Bound, FormulaTree}
+use Rattle.qe_syntax.specs.Holes.{InnerTree, Nest, Nests, nest, alone, beside}
 use Rattle.qe_syntax.specs.Holes as inside
-use Rattle.qe_syntax.specs.Writable.{IsWritableTerm, AreWritableEntries}
+use Rattle.qe_syntax.specs.Writable.{IsWritableTerm, IsWritableFormula, AreWritableFormulas, AreWritableEntries}
 use Rattle.statement_syntax.specs.declared.grid.Ratio.{Ratio}
 use Rattle.statement_syntax.specs.declared.grid.GridAxis.{GridAxis}
 use Rattle.statement_syntax.specs.ConstraintLists.{AreConstraints, AreWeakConstraints}
@@ -32,28 +34,40 @@ AreWritableAxes = AllByRecursion IsWritableAxis
 abbrev pub AreWritableNumbers : List Literal → Type 0
 AreWritableNumbers = AllByRecursion IsSigned
 
--- The texts that stand as names in a formula: those that a script can write and, where commands stand inside, the names of answers.
-abbrev pub IsNameBeside : Nests → List ℕ → Type 0
-IsNameBeside alone x = IsVariable x
-IsNameBeside (beside n ns) x = IsVariable x ⊎ ((k : ℕ) × (x ≡ inner_name k))
+-- an atom with true in the place of an answer, whose name is longer than each that a script can write
+abbrev pub unanswered_atom : WrittenAtom → FormulaTree
+unanswered_atom (Compare rel s t) = One (Compare rel s t)
+unanswered_atom (Cong s t m) = One (Cong s t m)
+unanswered_atom (Ncong s t m) = One (Ncong s t m)
+unanswered_atom (Bound x) = if nat_lt 64 (length x) then Yes else One (Bound x)
 
-module _ (K : List ℕ → Type 0) where
-  -- each formula, each entry, each axis and each number of the command can be written, its names have K, and constraints are constraints
+-- a formula with true in the places of answers
+abbrev pub unanswered : FormulaTree → FormulaTree
+unanswered f = replaced unanswered_atom (λ x. x) f
+
+-- The formula can be written, where these commands stand inside it and their answers have names.
+abbrev pub IsFormulaBeside : Nests → FormulaTree → Type 0
+IsFormulaBeside alone f = IsWritableFormula f
+IsFormulaBeside (beside n ns) f = IsWritableFormula (unanswered f)
+
+module _ (P : FormulaTree → Type 0) where
+  -- The formula of the command has P. Each other formula, each entry, each axis and each number can be written, and constraints are constraints: in what is assumed, and in
+  -- constraints, no command stands.
   abbrev pub IsCommandOver : CommandTree → Type 0
-  IsCommandOver (Echo f) = IsFormulaOver K f
-  IsCommandOver (Nnf f) = IsFormulaOver K f
-  IsCommandOver (Pnf f) = IsFormulaOver K f
-  IsCommandOver (Dnf f) = IsFormulaOver K f
-  IsCommandOver (Cnf f) = IsFormulaOver K f
-  IsCommandOver (Simpl f given) = IsFormulaOver K f × AreFormulasOver K given
-  IsCommandOver (Qe f given) = IsFormulaOver K f × AreFormulasOver K given
-  IsCommandOver (Qea f given) = IsFormulaOver K f × AreFormulasOver K given
-  IsCommandOver (Holds f entries) = IsFormulaOver K f × AreWritableEntries entries
-  IsCommandOver (Sample f entries) = IsFormulaOver K f × AreWritableEntries entries
-  IsCommandOver (Grid f axes) = IsFormulaOver K f × AreWritableAxes axes
-  IsCommandOver (Certify constraints) = AreFormulasOver K constraints × AreConstraints constraints
-  IsCommandOver (Check constraints multipliers) = (AreFormulasOver K constraints × AreConstraints constraints) × AreWritableNumbers multipliers
-  IsCommandOver (Least constraints target) = (AreFormulasOver K constraints × AreWeakConstraints constraints) × IsWritableTerm target
+  IsCommandOver (Echo f) = P f
+  IsCommandOver (Nnf f) = P f
+  IsCommandOver (Pnf f) = P f
+  IsCommandOver (Dnf f) = P f
+  IsCommandOver (Cnf f) = P f
+  IsCommandOver (Simpl f given) = P f × AreWritableFormulas given
+  IsCommandOver (Qe f given) = P f × AreWritableFormulas given
+  IsCommandOver (Qea f given) = P f × AreWritableFormulas given
+  IsCommandOver (Holds f entries) = P f × AreWritableEntries entries
+  IsCommandOver (Sample f entries) = P f × AreWritableEntries entries
+  IsCommandOver (Grid f axes) = P f × AreWritableAxes axes
+  IsCommandOver (Certify constraints) = AreWritableFormulas constraints × AreConstraints constraints
+  IsCommandOver (Check constraints multipliers) = (AreWritableFormulas constraints × AreConstraints constraints) × AreWritableNumbers multipliers
+  IsCommandOver (Least constraints target) = (AreWritableFormulas constraints × AreWeakConstraints constraints) × IsWritableTerm target
 
   -- the same of the command of the action, if it has one, and of its atoms; and its name can be written
   abbrev pub IsActionOver : ActionTree → Type 0
@@ -63,30 +77,30 @@ module _ (K : List ℕ → Type 0) where
   IsActionOver (Choose setting) = Unit {0}
   IsActionOver (Say c) = IsCommandOver c
   IsActionOver (Assign x c) = IsVariable x × IsCommandOver c
-  IsActionOver (Assume given) = AreFormulasOver K given
+  IsActionOver (Assume given) = AreWritableFormulas given
   IsActionOver Retract = Unit {0}
 
   -- the same of a command inside a formula
   abbrev pub IsInnerOver : InnerTree → Type 0
-  IsInnerOver (inside.Nnf f) = IsFormulaOver K f
-  IsInnerOver (inside.Pnf f) = IsFormulaOver K f
-  IsInnerOver (inside.Dnf f) = IsFormulaOver K f
-  IsInnerOver (inside.Cnf f) = IsFormulaOver K f
-  IsInnerOver (inside.Simpl f given) = IsFormulaOver K f × AreFormulasOver K given
-  IsInnerOver (inside.Qe f given) = IsFormulaOver K f × AreFormulasOver K given
+  IsInnerOver (inside.Nnf f) = P f
+  IsInnerOver (inside.Pnf f) = P f
+  IsInnerOver (inside.Dnf f) = P f
+  IsInnerOver (inside.Cnf f) = P f
+  IsInnerOver (inside.Simpl f given) = P f × AreWritableFormulas given
+  IsInnerOver (inside.Qe f given) = P f × AreWritableFormulas given
 
 -- a command inside which no other stands
 abbrev pub IsWritableCommand : CommandTree → Type 0
-IsWritableCommand = IsCommandOver IsVariable
+IsWritableCommand = IsCommandOver IsWritableFormula
 
 -- an action inside which no command stands
 abbrev pub IsWritableAction : ActionTree → Type 0
-IsWritableAction = IsActionOver IsVariable
+IsWritableAction = IsActionOver IsWritableFormula
 
 abbrev mutual
   -- the command can be written, and so can those inside it
   pub IsWritableNest : Nest → Type 0
-  IsWritableNest (nest c ns) = IsInnerOver (IsNameBeside ns) c × AreWritableNests ns
+  IsWritableNest (nest c ns) = IsInnerOver (IsFormulaBeside ns) c × AreWritableNests ns
 
   -- each of the commands can
   pub AreWritableNests : Nests → Type 0
@@ -95,5 +109,5 @@ abbrev mutual
 
 -- the action of the statement can be written, and so can the commands inside its formulas
 pub record IsWritable (s : StatementTree) : Type 0 where
-  pub action : IsActionOver (IsNameBeside s.inner) s.action
+  pub action : IsActionOver (IsFormulaBeside s.inner) s.action
   pub inner : AreWritableNests s.inner

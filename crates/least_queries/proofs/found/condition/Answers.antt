@@ -15,5 +15,6 @@ returns-in-Ok-guards_together-clause-kept g c = record {
   names = refl;
   bindings = refl;
   standing = refl;
+  answers = refl;
   store = keeps_then c.args.state.now.store c.cases.new.store c.guards_together.new.store c.cases.ensures.kept c.guards_together.ensures.kept;
 }

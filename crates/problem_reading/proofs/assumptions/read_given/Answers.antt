@@ -7,7 +7,7 @@ use Rattle.qe_syntax.proofs.EntryLists.{all_at, more_entries}
 use Rattle.resolved_formulas.specs.Resolving.{resolve}
 use Rattle.formula_tree.specs.Makers.{AreMade}
 use Rattle.formula_store.specs.Nodes.{tree, IsId}
-use Rattle.command_tools.specs.FromSessionMeaning.{resolved_all, State}
+use Rattle.command_tools.specs.FromSessionMeaning.{resolved_all, State, known}
 use Rattle.command_tools.specs.FromSessionState.{state_of}
 use Rattle.problem_reading.specs.Reading.{HasNumbers, FirstAmong, AppliesToSome, IsFirstWith, IsOneMore}
 use Rattle.problem_reading.proofs.AssumptionLemmas.{first_of_more, none_before}
@@ -52,7 +52,7 @@ loop-formula-preserved c =
           (first_of_more (state_of old) gs g c.loop-formula.stop c.in_ok-stop.stop c.loop-formula.invariant.first with);
       made = λ none.
           let before = c.loop-formula.invariant.made (none_before (state_of old) (formula_tree g) c.loop-formula.stop c.in_ok-stop.stop with none) in
-          let here = subst (λ (s : State). IsOneMore later c.loop-formula.ids.items c.read_one.new.ids.items (resolve s.context s.bound s.names (formula_tree g))) same (c.in_ok-stop.ensures.made none) in
+          let here = subst (λ (s : State). IsOneMore later c.loop-formula.ids.items c.read_one.new.ids.items (resolve s.context (known s) s.names (formula_tree g))) same (c.in_ok-stop.ensures.made none) in
           subst (λ ds. AreMade (IsId later.store) (tree later.store) c.read_one.new.ids.items (resolved_all (state_of old) (formulas_of (map formula_tree ds)))) (sym more)
           (subst (AreMade (IsId later.store) (tree later.store) c.read_one.new.ids.items) (sym (resolved_more (state_of old) gs g))
           (one_more c.loop-formula.state later c.read_one.ensures.kept c.loop-formula.ids.items c.read_one.new.ids.items _ _ before here));

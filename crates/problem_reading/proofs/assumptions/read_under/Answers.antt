@@ -1,6 +1,5 @@
 use Rattle.std.proofs.Common.{inr, sym, Some, None}
-use Rattle.qe_syntax.specs.CodeTrees.{formula_tree}
-use Rattle.command_tools.specs.FromSessionState.{state_of}
+use Rattle.command_tools.specs.FromSessionState.{state_of, answered_tree}
 use Rattle.problem_reading.proofs.AssumptionLemmas.{first_unread}
 use Rattle.problem_reading.proofs.CauseLemmas.{readable_none}
 use Rattle.problem_reading.proofs.MadeLemmas.{still_ids, under_read, under_unread}
@@ -11,11 +10,11 @@ premised-requires c = still_ids c.args.state.now c.resolved_part.new.state c.res
 
 pub returns-in-None-clause-read : goal.returns-in-None-clause-read
 returns-in-None-clause-read c =
-    under_read (state_of c.args.state.now) (formula_tree c.args.formula.now) c.args.stop c.args.ids.now c.resolved_part.new.state c.in-Ok.formula c.premised.result
+    under_read (state_of c.args.state.now) (answered_tree c.args.formula.now) c.args.stop c.args.ids.now c.resolved_part.new.state c.in-Ok.formula c.premised.result
     c.in-Ok.ensures.made c.in-Ok.ensures.readable c.in-None.is c.premised.ensures.formula c.premised.ensures.atoms c.premised.ensures.well_formed
 
 pub returns-in-None-clause-unread : goal.returns-in-None-clause-unread
-returns-in-None-clause-unread c = under_unread (state_of c.args.state.now) (formula_tree c.args.formula.now) c.args.stop c.premised.result c.premised.ensures.memory
+returns-in-None-clause-unread c = under_unread (state_of c.args.state.now) (answered_tree c.args.formula.now) c.args.stop c.premised.result c.premised.ensures.memory
 
 pub returns-in-Some-clause-unread : goal.returns-in-Some-clause-unread
 returns-in-Some-clause-unread c =
@@ -24,7 +23,7 @@ returns-in-Some-clause-unread c =
       c.static_refusal.ensures,
       record {
         cause = None;
-        first = readable_none (state_of c.args.state.now) (formula_tree c.args.formula.now) c.in-Ok.ensures.readable;
+        first = readable_none (state_of c.args.state.now) (answered_tree c.args.formula.now) c.in-Ok.ensures.readable;
         joined = sym c.in-Some.is;
       },
     )
@@ -36,7 +35,7 @@ returns-in_ok-error-in-Err-clause-unread c =
       c.static_refusal-in-Err.ensures,
       record {
         cause = Some c.in-Err.error;
-        first = first_unread (state_of c.args.state.now) (formula_tree c.args.formula.now) c.in-Err.error c.in_ok-error-in-Err.ensures.cause c.in-Err.ensures.unread;
+        first = first_unread (state_of c.args.state.now) (answered_tree c.args.formula.now) c.in-Err.error c.in_ok-error-in-Err.ensures.cause c.in-Err.ensures.unread;
         joined = c.in_ok-error-in-Err.ensures.earlier;
       },
     )

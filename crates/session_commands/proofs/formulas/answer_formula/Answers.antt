@@ -1,7 +1,6 @@
 use Rattle.std.proofs.Common.{subst}
 use Rattle.std.specs.Prelude.{IfOk, IfErr}
-use Rattle.qe_syntax.specs.CodeTrees.{formula_tree}
-use Rattle.point_queries.specs.FromSessionState.{state_of}
+use Rattle.point_queries.specs.FromSessionState.{state_of, answered_tree}
 use Rattle.point_queries.specs.FromCommandTools.{use_of, Refuses, IsFormulaAnswer}
 use Rattle.session_commands.specs.Steps.{command_of}
 use Rattle.point_queries.proofs.FromSessionState.{keeps_itself, grows_then_grows}
@@ -10,16 +9,16 @@ use Rattle.session_commands.proofs.formulas.answer_formula.Goals as goal
 
 pub answer_numbered-requires-clause-session : goal.answer_numbered-requires-clause-session
 answer_numbered-requires-clause-session g c _ _ =
-    let f = formula_tree c.args.formula.now in
+    let f = answered_tree c.args.formula.now in
     let d = c.args.state.now in
     let w = c.args.wanted in
     let names = c.number_parts.new.names in
     let is = names_are w f d names _ c.in_ok-number_parts.ensures.numbered c.assumptions-assumptions.ensures in
-    numbered_session w f d names is c.requires.session c.number_parts.ensures.grown c.requires.proper c.requires.given
+    numbered_session w f d names is c.requires.session c.number_parts.ensures.grown c.requires.answers.scripted c.requires.given
 
 pub answer_numbered-requires-clause-numbered : goal.answer_numbered-requires-clause-numbered
 answer_numbered-requires-clause-numbered g c _ _ =
-    let f = formula_tree c.args.formula.now in
+    let f = answered_tree c.args.formula.now in
     let d = c.args.state.now in
     let w = c.args.wanted in
     let names = c.number_parts.new.names in
@@ -27,7 +26,7 @@ answer_numbered-requires-clause-numbered g c _ _ =
 
 pub returns-clause-answer : goal.returns-clause-answer
 returns-clause-answer g c =
-    let f = formula_tree c.args.formula.now in
+    let f = answered_tree c.args.formula.now in
     let d = c.args.state.now in
     let w = c.args.wanted in
     let names = c.number_parts.new.names in
@@ -37,7 +36,7 @@ returns-clause-answer g c =
 
 pub returns-clause-refused : goal.returns-clause-refused
 returns-clause-refused g c =
-    let f = formula_tree c.args.formula.now in
+    let f = answered_tree c.args.formula.now in
     let d = c.args.state.now in
     let w = c.args.wanted in
     let names = c.number_parts.new.names in
@@ -47,7 +46,7 @@ returns-clause-refused g c =
 
 pub returns-clause-grown : goal.returns-clause-grown
 returns-clause-grown g c =
-    let f = formula_tree c.args.formula.now in
+    let f = answered_tree c.args.formula.now in
     let d = c.args.state.now in
     let w = c.args.wanted in
     let names = c.number_parts.new.names in

@@ -1,7 +1,6 @@
 use Rattle.std.proofs.Common.{◌≡◌, inr, Err, sym, subst, rules}
 use Rattle.std.specs.Prelude.{IfErr, OnErr}
-use Rattle.qe_syntax.specs.CodeTrees.{formula_tree}
-use Rattle.point_queries.specs.FromSessionState.{state_of, GrowsState}
+use Rattle.point_queries.specs.FromSessionState.{state_of, GrowsState, answered_tree}
 use Rattle.point_queries.specs.FromCommandTools.{use_of}
 use Rattle.session_commands.specs.Steps.{AttemptRefuses, KeepsWhereEliminated}
 use Rattle.session_commands.proofs.GivenLemmas.{fits_other}
@@ -10,7 +9,7 @@ use Rattle.session_commands.proofs.formulas.attempt.Goals as goal
 
 pub returns-in_err-id-clause-refused : goal.returns-in_err-id-clause-refused
 returns-in_err-id-clause-refused g c =
-    let f = formula_tree c.args.formula.now in
+    let f = answered_tree c.args.formula.now in
     let d = c.args.state.now in
     let w = c.args.wanted in
     let u = use_of c.args.target.now c.args.printed in
@@ -30,49 +29,49 @@ returns-in_err-id-clause-kept g c =
 
 pub give-requires-clause-within : goal.give-requires-clause-within
 give-requires-clause-within g c =
-    let f = formula_tree c.args.formula.now in
+    let f = answered_tree c.args.formula.now in
     let d = c.args.state.now in
     let w = c.args.wanted in
     let later = c.wanted_formula.new.state in
     let id = c.in_ok-id.id in
-    later_within w f d c.requires.numbered c.requires.session c.requires.proper c.args.workshop.now.limits.nodes later c.wanted_formula.ensures.grown id c.in_ok-id.ensures.made c.in_ok-id.ensures.wanted
+    later_within w f d c.requires.numbered c.requires.session c.requires.answers.scripted c.args.workshop.now.limits.nodes later c.wanted_formula.ensures.grown id c.in_ok-id.ensures.made c.in_ok-id.ensures.wanted
 
 pub give-requires-clause-members : goal.give-requires-clause-members
 give-requires-clause-members g c =
-    let f = formula_tree c.args.formula.now in
+    let f = answered_tree c.args.formula.now in
     let d = c.args.state.now in
     let w = c.args.wanted in
     let later = c.wanted_formula.new.state in
     let id = c.in_ok-id.id in
-    later_members w f d c.requires.numbered c.requires.session c.requires.proper c.args.workshop.now.limits.nodes later c.wanted_formula.ensures.grown id c.in_ok-id.ensures.made c.in_ok-id.ensures.wanted
+    later_members w f d c.requires.numbered c.requires.session c.requires.answers.scripted c.args.workshop.now.limits.nodes later c.wanted_formula.ensures.grown id c.in_ok-id.ensures.made c.in_ok-id.ensures.wanted
 
 pub returns-clause-session : goal.returns-clause-session
 returns-clause-session g c =
-    let f = formula_tree c.args.formula.now in
+    let f = answered_tree c.args.formula.now in
     let d = c.args.state.now in
     let w = c.args.wanted in
     let later = c.wanted_formula.new.state in
     let id = c.in_ok-id.id in
-    answered_session w f d c.requires.numbered c.requires.session c.requires.proper c.args.workshop.now.limits.nodes later c.wanted_formula.ensures.grown id c.in_ok-id.ensures.made c.in_ok-id.ensures.wanted c.args.target.now c.args.printed c.give.result c.give.new.state c.give.ensures.bound
+    answered_session w f d c.requires.numbered c.requires.session c.requires.answers.scripted c.args.workshop.now.limits.nodes later c.wanted_formula.ensures.grown id c.in_ok-id.ensures.made c.in_ok-id.ensures.wanted c.args.target.now c.args.printed c.give.result c.give.new.state c.give.ensures.bound
 
 pub returns-clause-answer : goal.returns-clause-answer
 returns-clause-answer g c =
-    let f = formula_tree c.args.formula.now in
+    let f = answered_tree c.args.formula.now in
     let d = c.args.state.now in
     let w = c.args.wanted in
     let later = c.wanted_formula.new.state in
     let id = c.in_ok-id.id in
-    given_answer w f d c.requires.numbered c.requires.session c.requires.proper c.args.workshop.now.limits.nodes later c.wanted_formula.ensures.grown id c.in_ok-id.ensures.made c.in_ok-id.ensures.wanted
+    given_answer w f d c.requires.numbered c.requires.session c.requires.answers.scripted c.args.workshop.now.limits.nodes later c.wanted_formula.ensures.grown id c.in_ok-id.ensures.made c.in_ok-id.ensures.wanted
     c.args.target.now c.args.printed c.give.result c.give.new.state c.give.ensures.bound c.give.ensures.line
 
 pub returns-clause-refused : goal.returns-clause-refused
 returns-clause-refused g c =
-    let f = formula_tree c.args.formula.now in
+    let f = answered_tree c.args.formula.now in
     let d = c.args.state.now in
     let w = c.args.wanted in
     let later = c.wanted_formula.new.state in
     let id = c.in_ok-id.id in
-    given_refused w f d c.requires.numbered c.requires.session c.requires.proper c.args.workshop.now.limits.nodes later c.wanted_formula.ensures.grown id c.in_ok-id.ensures.made c.in_ok-id.ensures.wanted
+    given_refused w f d c.requires.numbered c.requires.session c.requires.answers.scripted c.args.workshop.now.limits.nodes later c.wanted_formula.ensures.grown id c.in_ok-id.ensures.made c.in_ok-id.ensures.wanted
     c.args.target.now c.args.printed c.give.result c.give.new.state c.give.ensures.fault c.give.ensures.few
 
 pub returns-clause-grown : goal.returns-clause-grown

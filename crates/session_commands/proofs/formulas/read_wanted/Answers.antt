@@ -3,7 +3,7 @@ use Rattle.formula_meaning.specs.Formula.{also}
 use Rattle.qe_syntax.specs.Writable.{AreWritableFormulas}
 use Rattle.qe_syntax.specs.Trees.{formulas_of}
 use Rattle.qe_syntax.specs.CodeTrees.{formula_tree}
-use Rattle.point_queries.specs.FromSessionState.{state_of}
+use Rattle.point_queries.specs.FromSessionState.{state_of, answered_tree}
 use Rattle.session_commands.specs.Steps.{given_trees, HasUnwantedQuantifier}
 use Rattle.point_queries.specs.FromProblemReading.{AreReadable, AreUnread, AreRead}
 use Rattle.session_meaning.specs.declared.line.StatementError.TheVariants as error
@@ -23,7 +23,7 @@ has_unwanted_quantifier-requires-in-Err-Overflow-clause-ids c = kept_ids c.args.
 pub returns-then-has_unwanted_quantifier-clause-unready : goal.returns-then-has_unwanted_quantifier-clause-unready
 returns-then-has_unwanted_quantifier-clause-unready c =
     let s = state_of c.args.state.now in
-    let f = formula_tree c.args.formula.now in
+    let f = answered_tree c.args.formula.now in
     inl (record {
       word = refl;
       quantified = subst (λ t. HasUnwantedQuantifier t c.args.wanted f) (same_state c.args.state.now c.read_parts.new.state c.requires.ids c.read_parts.ensures.kept) (c.has_unwanted_quantifier.ensures.0 c.if-has_unwanted_quantifier.true);
@@ -32,7 +32,7 @@ returns-then-has_unwanted_quantifier-clause-unready c =
 
 pub returns-else-has_unwanted_quantifier-clause-ready : goal.returns-else-has_unwanted_quantifier-clause-ready
 returns-else-has_unwanted_quantifier-clause-ready c =
-    let f = formula_tree c.args.formula.now in
+    let f = answered_tree c.args.formula.now in
     record {
       readable = subst (λ gs. AreReadable (state_of c.args.state.now) (also f gs)) c.assumptions.ensures c.in-Ok.ensures.read.readable;
       plain = λ h. absurd (cc (
@@ -45,7 +45,7 @@ returns-else-has_unwanted_quantifier-clause-ready c =
 pub returns-then-has_unwanted_quantifier-2-clause-unready : goal.returns-then-has_unwanted_quantifier-2-clause-unready
 returns-then-has_unwanted_quantifier-2-clause-unready c =
     let s = state_of c.args.state.now in
-    let f = formula_tree c.args.formula.now in
+    let f = answered_tree c.args.formula.now in
     inl (record {
       word = refl;
       quantified = subst (λ t. HasUnwantedQuantifier t c.args.wanted f) (same_state c.args.state.now c.read_parts.new.state c.requires.ids c.read_parts.ensures.kept) (c.has_unwanted_quantifier-in-Err-Overflow.ensures.0 c.if-has_unwanted_quantifier-2.true);
@@ -56,7 +56,7 @@ returns-then-has_unwanted_quantifier-2-clause-unready c =
 pub returns-else-has_unwanted_quantifier-2-clause-unready : goal.returns-else-has_unwanted_quantifier-2-clause-unready
 returns-else-has_unwanted_quantifier-2-clause-unready c =
     let s = state_of c.args.state.now in
-    let f = formula_tree c.args.formula.now in
+    let f = answered_tree c.args.formula.now in
     inr (record {
       unread = subst (λ gs. AreUnread s (also f gs) error.Overflow) c.assumptions.ensures (subst (λ e. AreUnread s (also f (formulas_of (map formula_tree c.assumptions.result.now))) e) c.in-Err-Overflow.field-0-is c.in-Err-Overflow.ensures.unread);
       plain = λ e h. absurd (cc (
@@ -68,4 +68,4 @@ returns-else-has_unwanted_quantifier-2-clause-unready c =
 
 pub returns-else-has_unwanted_quantifier-clause-read : goal.returns-else-has_unwanted_quantifier-clause-read
 returns-else-has_unwanted_quantifier-clause-read c =
-    subst (λ gs. AreRead (state_of c.args.state.now) (formula_tree c.args.formula.now) gs c.read_parts.new.state c.in-Ok.read) c.assumptions.ensures c.in-Ok.ensures.read
+    subst (λ gs. AreRead (state_of c.args.state.now) (answered_tree c.args.formula.now) gs c.read_parts.new.state c.in-Ok.read) c.assumptions.ensures c.in-Ok.ensures.read

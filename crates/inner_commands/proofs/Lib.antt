@@ -1,0 +1,4 @@
+pub mod Sizes
+pub mod Gathering
+pub mod Texts
+pub mod Inside
