@@ -13,7 +13,7 @@ ghost use Rattle.formula_tree.specs.Names.{place};
 ghost use Rattle.certificate_search.specs.Certificates.{certificate_of as meant_certificate, HasNumbersWithin};
 ghost use Rattle.problem_reading.specs.FromSessionMeaning.{constrained_names, IsCertificateAnswer, meaning, numbered};
 ghost use Rattle.problem_reading.specs.FromSessionState.{state_of, IsSessionState, KeepsState, GrowsState};
-ghost use Rattle.problem_reading.specs.FromCommandTools.{use_of, Refuses, IsQueryAnswer};
+ghost use Rattle.problem_reading.specs.FromCommandTools.{use_of, Refuses, RefusesCommand, IsQueryAnswer, AnswersQuery};
 ghost use Rattle.problem_reading.specs.Reading.{AreNumbered};
 ghost use Rattle.certificate_queries.specs.Steps.{RefusesCertificate, AreReady};
 
@@ -36,9 +36,9 @@ pub fn answer_certificate(
     requires constraints { AreConstraints (formulas_of (map formula_tree written.now)) }
     requires session { IsSessionState state.old }
     ensures session { OnOk result (IsSessionState state.new) }
-    ensures answer { IfOk result (IsQueryAnswer (numbered (meaning (Certify (formulas_of (map formula_tree written.now)))) (state_of state.old)) limit printed (Certify (formulas_of (map formula_tree written.now))) (state_of state.new).names) }
+    ensures answer { IfOk result (AnswersQuery (Certify (formulas_of (map formula_tree written.now))) (state_of state.old) limit printed (state_of state.new).names) }
     ensures next { OnOk result (state_of state.new ≡ numbered (meaning (Certify (formulas_of (map formula_tree written.now)))) (state_of state.old)) }
-    ensures refused { IfErr result (Refuses (numbered (meaning (Certify (formulas_of (map formula_tree written.now)))) (state_of state.old)) limit (use_of None printed) (Certify (formulas_of (map formula_tree written.now)))) }
+    ensures refused { IfErr result (RefusesCommand (Certify (formulas_of (map formula_tree written.now))) (state_of state.old) limit (use_of None printed)) }
     ensures grown { OnErr result (GrowsState state.old state.new) }
 {
     number_all(written, &state.bindings, &mut state.names)?;

@@ -11,7 +11,7 @@ ghost use Rattle.statement_syntax.specs.Statements.{Check};
 ghost use Rattle.statement_syntax.specs.Writable.{AreWritableNumbers};
 ghost use Rattle.problem_reading.specs.FromSessionMeaning.{multipliers_of as meant_multipliers, IsCheckAnswer, meaning, numbered};
 ghost use Rattle.problem_reading.specs.FromSessionState.{state_of, IsSessionState, KeepsState, GrowsState};
-ghost use Rattle.problem_reading.specs.FromCommandTools.{use_of, Refuses, IsQueryAnswer};
+ghost use Rattle.problem_reading.specs.FromCommandTools.{use_of, RefusesCommand, AnswersQuery};
 ghost use Rattle.problem_reading.specs.Reading.{AreNumbered};
 ghost use Rattle.certificate_queries.specs.Steps.{RefusesCheck, AcceptsCheck};
 
@@ -36,9 +36,9 @@ pub fn answer_check(
     requires numbers { AreWritableNumbers multipliers.now }
     requires session { IsSessionState state.old }
     ensures session { OnOk result (IsSessionState state.new) }
-    ensures answer { IfOk result (IsQueryAnswer (numbered (meaning (Check (formulas_of (map formula_tree written.now)) multipliers.now)) (state_of state.old)) limit printed (Check (formulas_of (map formula_tree written.now)) multipliers.now) (state_of state.new).names) }
+    ensures answer { IfOk result (AnswersQuery (Check (formulas_of (map formula_tree written.now)) multipliers.now) (state_of state.old) limit printed (state_of state.new).names) }
     ensures next { OnOk result (state_of state.new ≡ numbered (meaning (Check (formulas_of (map formula_tree written.now)) multipliers.now)) (state_of state.old)) }
-    ensures refused { IfErr result (Refuses (numbered (meaning (Check (formulas_of (map formula_tree written.now)) multipliers.now)) (state_of state.old)) limit (use_of None printed) (Check (formulas_of (map formula_tree written.now)) multipliers.now)) }
+    ensures refused { IfErr result (RefusesCommand (Check (formulas_of (map formula_tree written.now)) multipliers.now) (state_of state.old) limit (use_of None printed)) }
     ensures grown { OnErr result (GrowsState state.old state.new) }
 {
     number_all(written, &state.bindings, &mut state.names)?;

@@ -2,7 +2,7 @@
 use Rattle.std.specs.Prelude.{◌≡◌, ◌≢◌, ℕ, List, Bool, Option, Some, None}
 use Rattle.formula_meaning.specs.Tree.{Tree}
 use Rattle.statement_syntax.specs.Statements.{CommandTree, ActionTree, Empty, Ignored, Finish, Choose, Say, Assign, Assume, Retract}
-use Rattle.shared_forms.specs.FromSessionMeaning.{Line, StatementError, State, with_names, with_bound, meaning, MayGive, GivesFormula, Use, formula_line, IsTooLarge, IsAccepted, IsFirst, IsLine, Tells, RefusesAction}
+use Rattle.shared_forms.specs.FromSessionMeaning.{Line, StatementError, State, with_names, with_bound, meaning, numbered, MayGive, GivesFormula, Use, formula_line, IsTooLarge, IsAccepted, IsFirst, IsLine, Tells, RefusesAction}
 use Rattle.shared_forms.specs.FromSessionMeaning.statement_error_variants as error
 
 -- what is done with what a command gives
@@ -12,6 +12,10 @@ use_of target printed = record { target = target; printed = printed }
 -- the command is refused with the word, in a state in which its variables have their numbers; of want of memory nothing is said
 abbrev pub Refuses : State → ℕ → Use → CommandTree → StatementError → Type 0
 Refuses s limit u c e = e ≢ error.Memory → IsFirst (meaning c) s limit u e
+
+-- the same of a state in which its variables may have no numbers: they get them first
+abbrev pub RefusesCommand : CommandTree → State → ℕ → Use → StatementError → Type 0
+RefusesCommand c s limit u e = Refuses (numbered (meaning c) s) limit u c e
 
 -- why an action is not answered; of want of memory nothing is said
 abbrev pub IsStopped : State → ℕ → Bool → ActionTree → StatementError → Type 0
@@ -33,12 +37,20 @@ pub record IsFormulaAnswer (s : State) (limit : ℕ) (u : Use) (c : CommandTree)
   pub small : ¬ (IsTooLarge u.target formula)
   pub after : next ≡ state_with (with_names s names) u.target formula
 
+-- the same of a state in which its variables may have no numbers: they get them first
+abbrev pub AnswersFormula : CommandTree → State → ℕ → Use → Line → State → Type 0
+AnswersFormula c s limit u answer next = IsFormulaAnswer (numbered (meaning c) s) limit u c answer next
+
 -- the query is accepted, and this is the line of a text that it may be answered with, where the names after the answer are these
 pub record IsQueryAnswer (s : State) (limit : ℕ) (printed : Bool) (c : CommandTree) (names : List (List ℕ)) (answer : Line) : Type 0 where
   pub accepted : IsAccepted (meaning c) s limit (use_of None printed)
   pub text : List ℕ
   pub told : Tells (meaning c).answer s limit names text
   pub line : IsLine printed text answer
+
+-- the same of a state in which its variables may have no numbers: they get them first
+abbrev pub AnswersQuery : CommandTree → State → ℕ → Bool → List (List ℕ) → Line → Type 0
+AnswersQuery c s limit printed names answer = IsQueryAnswer (numbered (meaning c) s) limit printed c names answer
 
 -- what the statement binds, if it binds something, is a formula
 abbrev pub BindsFormula : ActionTree → Type 0

@@ -13,7 +13,7 @@ use Rattle.qe_syntax.specs.Value.{HasName, HaveName, Mentions}
 use Rattle.formula_tree.specs.Bindings.{bound_to}
 use Rattle.resolved_formulas.specs.Somewhere.{Somewhere, SomewhereIn, SomeAtom}
 use Rattle.resolved_formulas.specs.Causes as cause
-use Rattle.resolved_formulas.specs.Causes.{most_height, height_in_place, IsBound, MentionsBound, IsCongruence, SomeTerm, HasPast, PassesInReading}
+use Rattle.resolved_formulas.specs.Causes.{most_height, height_in_place, IsBound, SomeTerm, HasPast, PassesInReading}
 use Rattle.resolved_formulas.specs.Accepted.{IsAccepted}
 use Rattle.resolved_formulas.specs.Resolving.{BoundTrees, variables_of, variables_in, atom_variables, formula_variables, all_variables}
 use Rattle.formula_tree.specs.Names.{place}

@@ -2,7 +2,7 @@
 
 ghost use Rattle.std.specs.Prelude.{◌≡◌, ◌≤◌, ◌<◌, ◌+◌, ◌||◌, ℕ, List, length, map, false};
 ghost use Rattle.std.specs.List.{AllByRecursion};
-ghost use Rattle.formula_meaning.specs.Replaced.{replaced, all_replaced};
+ghost use Rattle.formula_meaning.specs.Replaced.{all_replaced};
 ghost use Rattle.qe_syntax.specs.Trees.{Bound};
 ghost use Rattle.qe_syntax.specs.Holes.{command_count, inner_name, all_of};
 ghost use Rattle.qe_syntax.specs.CodeTrees.{whole_formula, named_tree, inner_of};
@@ -11,6 +11,7 @@ ghost use Rattle.formula_tree.specs.Quantified.{has_quantifier, some_quantifier}
 ghost use Rattle.formula_store.specs.declared.id.FormulaId.{FormulaId};
 ghost use Rattle.formula_store.specs.Nodes.{tree, IsId};
 ghost use Rattle.formula_resolving.specs.BoundIds.{AreIds, answered_trees};
+ghost use Rattle.free_names.specs.Places.{is_quantified_here};
 
 use formula_resolving::bound_formula;
 use formula_store::{FormulaId, Store};
@@ -28,7 +29,7 @@ pub fn is_quantified(
     requires ids { AreIds (IsId store.now) bound.now }
     requires answers { AllByRecursion (IsId store.now) inner.now }
     requires places { command_count (inner_of formula.now) ≤ length inner.now }
-    ensures { result ≡ has_quantifier (replaced (atom_in_place (answered_trees (tree store.now) inner.now bound.now)) (λ x. 0) (named_tree 0 formula.now)) }
+    ensures { result ≡ is_quantified_here store.now inner.now bound.now (named_tree 0 formula.now) }
 {
     let mut taken = 0;
     in_formula(formula, bound, inner, &mut taken, store)
@@ -47,7 +48,7 @@ fn in_formula(
     requires ids { AreIds (IsId store.now) bound.now }
     requires answers { AllByRecursion (IsId store.now) inner.now }
     requires room { taken.old + command_count (inner_of formula.now) ≤ length inner.now }
-    ensures found { result ≡ has_quantifier (replaced (atom_in_place (answered_trees (tree store.now) inner.now bound.now)) (λ x. 0) (named_tree taken.old formula.now)) }
+    ensures found { result ≡ is_quantified_here store.now inner.now bound.now (named_tree taken.old formula.now) }
     ensures taken { result ≡ false → taken.new ≡ taken.old + command_count (inner_of formula.now) }
 {
     match formula {
@@ -79,7 +80,7 @@ fn in_pair(
     requires ids { AreIds (IsId store.now) bound.now }
     requires answers { AllByRecursion (IsId store.now) inner.now }
     requires room { taken.old + (command_count (inner_of left.now) + command_count (inner_of right.now)) ≤ length inner.now }
-    ensures found { result ≡ (has_quantifier (replaced (atom_in_place (answered_trees (tree store.now) inner.now bound.now)) (λ x. 0) (named_tree taken.old left.now)) || has_quantifier (replaced (atom_in_place (answered_trees (tree store.now) inner.now bound.now)) (λ x. 0) (named_tree (taken.old + command_count (inner_of left.now)) right.now))) }
+    ensures found { result ≡ (is_quantified_here store.now inner.now bound.now (named_tree taken.old left.now) || is_quantified_here store.now inner.now bound.now (named_tree (taken.old + command_count (inner_of left.now)) right.now)) }
     ensures taken { result ≡ false → taken.new ≡ taken.old + (command_count (inner_of left.now) + command_count (inner_of right.now)) }
 {
     if in_formula(left, bound, inner, taken, store) {

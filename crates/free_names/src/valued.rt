@@ -1,6 +1,6 @@
 //! Whether each free number of a formula has an entry.
 
-ghost use Rattle.std.specs.Prelude.{◌≡◌, ◌≤◌, ◌<◌, ◌+◌, ◌⊎◌, ◌↔◌, ℕ, length, map, true, IsTrue, IfOk, OnOk};
+ghost use Rattle.std.specs.Prelude.{◌≡◌, ◌≤◌, ◌<◌, ◌+◌, ◌↔◌, ℕ, length, map, true, IsTrue, IfOk, OnOk};
 ghost use Rattle.std.specs.Bool.{MatchBool};
 ghost use Rattle.std.specs.List.{AllByRecursion};
 ghost use Rattle.std.specs.Ordering.{nat_cmp};
@@ -17,7 +17,7 @@ ghost use Rattle.formula_store.specs.Nodes.{tree, IsId};
 ghost use Rattle.formula_resolving.specs.BoundIds.{AreIds, answered_trees};
 ghost use Rattle.free_names.specs.Entries.{HasEntryAt};
 ghost use Rattle.free_names.specs.Missing.{IsSound};
-ghost use Rattle.free_names.specs.Places.{IsFreeHere, AreFreeHere, in_scope, name_in_scope};
+ghost use Rattle.free_names.specs.Places.{IsFreeHere, IsFreeInEither, AreFreeHere, in_scope, name_in_scope};
 ghost use Rattle.free_names.specs.Scopes.{AreAmong, IsIn, IsOpened, IsClosed};
 
 use crate::missing::{Table, look_into, numbers};
@@ -324,7 +324,7 @@ fn in_pair(
     requires answers { AllByRecursion (IsId around.now.store.now) around.now.inner.now }
     requires room { taken.old + (command_count (inner_of left.now) + command_count (inner_of right.now)) ≤ length around.now.inner.now }
     requires sound { IsSound around.now.store.now (contains nat_cmp around.now.valued.now) table.old }
-    ensures among { IfOk result (AreAmong (λ n. IsFreeHere around.now.store.now around.now.inner.now around.now.bound.now around.now.names.now (named_tree taken.old left.now) n ⊎ IsFreeHere around.now.store.now around.now.inner.now around.now.bound.now around.now.names.now (named_tree (taken.old + command_count (inner_of left.now)) right.now) n) (in_scope around.now.valued.now opened.old)) }
+    ensures among { IfOk result (AreAmong (IsFreeInEither around.now.store.now around.now.inner.now around.now.bound.now around.now.names.now (named_tree taken.old left.now) (named_tree (taken.old + command_count (inner_of left.now)) right.now)) (in_scope around.now.valued.now opened.old)) }
     ensures taken { IfOk result (λ valued. valued ≡ true → taken.new ≡ taken.old + (command_count (inner_of left.now) + command_count (inner_of right.now))) }
     ensures kept { OnOk result (IsSameSet nat_cmp opened.old opened.new) }
     ensures sound { OnOk result (IsSound around.now.store.now (contains nat_cmp around.now.valued.now) table.new) }

@@ -1,26 +1,21 @@
 -- A test point can be put into what is made of such formulas; what is made at many points is beside their store.
 use Rattle.std.proofs.Common.{arith, ◌≡◌, ⊎_elim, ◌+◌, ◌≤◌, List, [], ◌∷◌, map, length, get_or, sym, subst}
 use Rattle.std.proofs.lemmas.Option.{slice_get-get_or, slice_get_cases}
-use Rattle.std.specs.Prelude.{ℤ, All}
+use Rattle.std.specs.Prelude.{All}
 use Rattle.formula_meaning.specs.Context.{Fields}
 use Rattle.formula_meaning.specs.Formula.{And, Or, One}
-use Rattle.formula_meaning.specs.Form.{Form}
 use Rattle.formula_meaning.specs.Atom.{Atom}
 use Rattle.formula_meaning.specs.TheoryAtoms.{AtomIn}
-use Rattle.formula_meaning.specs.Shape.{IsQuantifierFree}
 use Rattle.formula_meaning.specs.Plain.{IsPlain}
 use Rattle.formula_meaning.specs.Tree.{Tree}
 use Rattle.formula_meaning.specs.Equivalence.{InContext}
-use Rattle.atom_normal.specs.declared.atoms.Rel.{Rel}
 use Rattle.atom_normal.specs.declared.atoms.Atom.TheVariants as atom
-use Rattle.atom_normal.specs.Atoms.{atom_of, relation_of}
 use Rattle.formula_tree.specs.declared.shape.Shape.{Shape}
 use Rattle.formula_tree.specs.Makers.{IsMade, Keeps}
 use Rattle.formula_tree.specs.Trees.{members}
 use Rattle.formula_store.specs.declared.id.FormulaId.{FormulaId}
 use Rattle.formula_store.specs.Changes.{Change}
 use Rattle.formula_store.specs.Nodes.{tree, IsId}
-use Rattle.formula_store.specs.Truths.{IsWholeWhereAsked}
 use Rattle.qe_parallel.specs.Fanned.{AnswerAll}
 use Rattle.virtual_subst.specs.Phases.{Phase, IsPutAtPiece}
 use Rattle.gate_calls.specs.Taking.{Takes, StillTakes}

@@ -22,7 +22,7 @@ use std::alloc::Global;
 #[tactic(auto, using(qe_syntax::proofs::WritableLemmas::writable, crate::proofs::PlainFormulas::no_places))]
 pub(crate) fn plain_tree(alloc: Global, context: Context, statement: &str) -> Option<String> {
     let statement = read_statement(alloc, statement.as_bytes()).ok()?;
-    let formula = formula_of(&statement)?;
+    let formula = formula_of(alloc, &statement)?;
     let mut names = Names::new(alloc);
     let mut maker = PlainMaker::new(alloc);
     let bound = Bindings::new(alloc);
@@ -36,7 +36,7 @@ fn id_of(alloc: Global, statement: &str, names: &mut Names, store: &mut Store) -
     ensures { IfSome result (IsId store.new) }
 {
     let statement = read_statement(alloc, statement.as_bytes()).ok()?;
-    let formula = formula_of(&statement)?;
+    let formula = formula_of(alloc, &statement)?;
     let bound = Bindings::new(alloc);
     linearise(alloc, formula, &bound, &[], Context::Fields, names, store).ok()
 }

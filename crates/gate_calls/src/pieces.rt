@@ -1,6 +1,6 @@
 //! Pieces shared out to threads.
 
-ghost use Rattle.std.specs.Prelude.{◌≡◌, ℕ};
+ghost use Rattle.std.specs.Prelude.{◌≡◌};
 
 use qe_parallel::{FanError, Gate, OpenGate, Worker, fan_out};
 use std::alloc::{AllocError, Global};

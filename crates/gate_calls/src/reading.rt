@@ -17,6 +17,7 @@ use atom_normal::Context;
 use formula_resolving::linearise;
 use formula_store::{FormulaId, Store};
 use formula_tree::{Bindings, Names, Tree};
+use inner_commands::commands_inside;
 use qe_syntax::Formula;
 use redlog_reader::read_statement;
 use shared_elimination::{eliminate_shared, unfolded_form};
@@ -27,19 +28,21 @@ use std::alloc::Global;
 pub(crate) const LIMIT: u64 = 1_000_000;
 
 /// The formula that the statement asks for as it is, if no command stands inside it.
-pub(crate) fn formula_of(statement: &Statement) -> Option<&Formula>
+pub(crate) fn formula_of(alloc: Global, statement: &Statement) -> Option<&Formula>
     requires { IsWritable (statement_tree statement.now) }
     ensures { IfSome result (λ f. IsWritableFormula (formula_tree f.now)) }
 {
-    if statement.has_inner_command() {
-        return None;
-    }
     let Action::Say(command) = &statement.action else {
         return None;
     };
-    match &**command {
-        Command::Echo(formula) => Some(formula),
-        _ => None,
+    let Command::Echo(formula) = &**command else {
+        return None;
+    };
+    let inside = commands_inside(alloc, formula).ok()?;
+    if inside.is_empty() {
+        Some(formula)
+    } else {
+        None
     }
 }
 
@@ -49,7 +52,7 @@ pub(crate) fn form_of(alloc: Global, context: Context, statement: &Statement) ->
     ensures moduli { IfSome result (λ t. Every HasModulus (tree_of t)) }
     ensures normal { IfSome result (λ t. Every (IsNormal (context_of context)) (tree_of t)) }
 {
-    let formula = formula_of(statement)?;
+    let formula = formula_of(alloc, statement)?;
     resolved_form(alloc, context, formula)
 }
 
@@ -95,7 +98,7 @@ pub(crate) fn normal_id(
     ensures normal { IfSome result (λ id. Every (IsNormal (context_of context)) (tree store.new id)) }
 {
     let statement = read_statement(alloc, statement.as_bytes()).ok()?;
-    let formula = formula_of(&statement)?;
+    let formula = formula_of(alloc, &statement)?;
     resolved_id(alloc, context, formula, store)
 }
 

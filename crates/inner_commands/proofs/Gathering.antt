@@ -13,7 +13,7 @@ use Rattle.qe_syntax.specs.declared.tree.InnerCommand.TheVariants as inner
 use Rattle.qe_syntax.specs.Holes.{Holed, Nest, Nests, nest, alone, beside, together, command_count, all_of}
 use Rattle.qe_syntax.specs.Trees.{FormulaTree, FormulaTrees}
 use Rattle.qe_syntax.proofs.TreeEquations.{whole-And, whole-Or, whole-Impl, whole-Repl, whole-Equiv, whole-Not, whole-Ex, whole-All, whole-True, whole-False, whole-Named, whole-Computed, command-Nnf, command-Pnf, command-Dnf, command-Cnf, command-Simpl, command-Qe}
-use Rattle.qe_syntax.specs.CodeTrees.{whole_formula, whole_formulas, whole_command}
+use Rattle.qe_syntax.specs.CodeTrees.{whole_formula, whole_formulas, whole_command, inner_of}
 use Rattle.statement_syntax.specs.LastTokens.{in_order, all_in_order, inside_count}
 use Rattle.inner_commands.specs.declared.order.Step.{Step}
 use Rattle.inner_commands.specs.Order.{nest_of, IsCounted, IsGathered, inside_of}
@@ -150,3 +150,17 @@ leaf_inside f is =
 
 pub as_inside : (ns ms : Nests) (old new : List Step) (n : ℕ) → ns ≡ ms → IsGathered ms old new n → IsGathered ns old new n
 as_inside ns ms old new n e h = subst (λ (ls : Nests). IsGathered ls old new n) (sym e) h
+
+-- no commands are in order where there are none
+none_in_order : (ns : Nests) → all_in_order ns ≡ [] → ns ≡ alone
+none_in_order alone e = refl
+none_in_order (beside (nest c ms) ns) e = absurd (not_empty (all_in_order ms) (nest c ms) (all_in_order ns) e)
+  where
+    not_empty : (xs : List Nest) (x : Nest) (ys : List Nest) → ¬ ((xs ++ x ∷ []) ++ ys ≡ [])
+    not_empty [] x ys p = cc
+    not_empty (z ∷ xs) x ys p = cc
+
+-- where none is listed, none stands inside
+pub no_steps : (steps : List Step) (f : written.Formula) → map nest_of steps ≡ all_in_order (inner_of f) → length steps ≡ 0 → inner_of f ≡ alone
+no_steps [] f e l = none_in_order (inner_of f) (sym e)
+no_steps (s ∷ steps) f e l = absurd (omega (arith, l))

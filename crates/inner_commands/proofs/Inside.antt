@@ -17,11 +17,11 @@ use Rattle.qe_syntax.specs.CodeTrees.{whole_formula, whole_formulas, whole_comma
 use Rattle.qe_syntax.specs.Valued.{IsIn}
 use Rattle.qe_syntax.proofs.TreeEquations.{whole-True, whole-False, whole-Compare, whole-Cong, whole-Ncong, whole-Named, whole-Not, whole-And, whole-Or, whole-Impl, whole-Repl, whole-Equiv, whole-Ex, whole-All, whole-Computed, wholes-list, command-Nnf, command-Pnf, command-Dnf, command-Cnf, command-Simpl, command-Qe}
 use Rattle.statement_syntax.specs.LastTokens.{in_order, all_in_order}
-use Rattle.statement_syntax.specs.Texts.{with_texts, all_with_texts, formulas_in, text_of, texts_of, written_out}
+use Rattle.statement_syntax.specs.Texts.{all_with_texts, formulas_in, text_of, texts_of, written_out}
 use Rattle.statement_syntax.specs.Writable.{IsInnerOver, IsFormulaBeside, IsWritableNest, AreWritableNests}
 use Rattle.resolved_formulas.specs.Resolving.{formula_variables, all_variables}
 use Rattle.inner_commands.specs.Order.{AreInOrder}
-use Rattle.inner_commands.specs.Text.{text_variables}
+use Rattle.inner_commands.specs.Text.{text_variables, with_texts}
 use Rattle.inner_commands.proofs.Gathering.{order_together}
 use Rattle.inner_commands.proofs.Texts.{texts_together, texts_count, text_there, out_is, in_left, in_right, variables_stand}
 

@@ -23,13 +23,13 @@ use Rattle.qe_syntax.specs.Value.{same_name}
 use Rattle.qe_syntax.specs.Valued.{IsIn, IsUnquantified}
 use Rattle.qe_syntax.specs.Writable.{IsWritableFormula, AreWritableFormulas}
 use Rattle.qe_syntax.proofs.TreeEquations.{formula-Ex, formula-All, whole-True, whole-False, whole-Compare, whole-Cong, whole-Ncong, whole-Named, whole-Not, whole-And, whole-Or, whole-Impl, whole-Repl, whole-Equiv, whole-Ex, whole-All, whole-Computed, command-Nnf, command-Pnf, command-Dnf, command-Cnf, command-Simpl, command-Qe}
-use Rattle.statement_syntax.specs.Texts.{text_at, text_of_atom, with_texts, all_with_texts, text_of, texts_of, written_out}
+use Rattle.statement_syntax.specs.Texts.{text_at, text_of_atom, all_with_texts, text_of, texts_of, written_out}
 use Rattle.resolved_formulas.specs.Resolving.{formula_variables, all_variables}
 use Rattle.resolved_formulas.proofs.AnswerNames.{no_answer}
 use Rattle.formula_tree.specs.Names.{with_name}
 use Rattle.formula_resolving.specs.Numbering.{Grows}
 use Rattle.formula_resolving.proofs.Numbered.{grows_then, grows_with}
-use Rattle.inner_commands.specs.Text.{text_variables, IsTextNumbered, AreTextsNumbered}
+use Rattle.inner_commands.specs.Text.{text_variables, with_texts, IsTextNumbered, AreTextsNumbered}
 
 -- ---- texts
 

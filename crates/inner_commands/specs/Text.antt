@@ -2,17 +2,22 @@
 use Rattle.std.specs.Prelude.{◌≡◌, ℕ, ◌++◌, List, length}
 use Rattle.std.specs.List.{fold}
 use Rattle.formula_meaning.specs.Formula.{none, also}
+use Rattle.formula_meaning.specs.Replaced.{replaced}
 use Rattle.qe_syntax.specs.Holes.{Holed}
 use Rattle.qe_syntax.specs.Trees.{FormulaTree, FormulaTrees}
 use Rattle.qe_syntax.specs.CodeTrees.{inner_of, named_tree}
 use Rattle.qe_syntax.specs.declared.tree.Formula.{Formula}
-use Rattle.statement_syntax.specs.Texts.{with_texts, all_with_texts, texts_of, written_out}
+use Rattle.statement_syntax.specs.Texts.{text_of_atom, all_with_texts, texts_of, written_out}
 use Rattle.resolved_formulas.specs.Resolving.{formula_variables, all_variables}
 use Rattle.formula_tree.specs.Names.{with_name}
 
 -- the variables of a formula, with what each command says in its place
 unfoldable pub text_variables : Formula → List (List ℕ)
 text_variables f = all_variables (written_out (inner_of f) (also (named_tree 0 f) none))
+
+-- a formula with these texts in the places of the answers
+abbrev pub with_texts : List FormulaTree → FormulaTree → FormulaTree
+with_texts texts f = replaced (text_of_atom texts) (λ x. x) f
 
 -- These variables of a formula are numbered, whatever commands stand before it and after it.
 pub record IsTextNumbered (h : Holed FormulaTree) (old new : List (List ℕ)) : Type 0 where

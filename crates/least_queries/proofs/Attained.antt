@@ -33,7 +33,7 @@ use Rattle.qe_syntax.specs.declared.tree.Relation.{Relation}
 use Rattle.qe_syntax.specs.declared.tree.Relation.TheVariants.{Equal}
 use Rattle.qe_syntax.specs.Names.{IsVariable}
 use Rattle.qe_syntax.specs.Trees.{TermTree, WrittenAtom, FormulaTree, FormulaTrees, Compare, Named}
-use Rattle.qe_syntax.specs.Value.{NamedPoint, HasName, Mentions, RelatesFractions, relation_of, same_name, value}
+use Rattle.qe_syntax.specs.Value.{NamedPoint, HasName, RelatesFractions, relation_of, same_name, value}
 use Rattle.qe_syntax.specs.Value as syntax
 use Rattle.qe_syntax.specs.Valued.{IsIn}
 use Rattle.qe_syntax.specs.Writable.{IsWritableTerm, IsWritableFormula, AreWritableFormulas}

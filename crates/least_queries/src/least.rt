@@ -11,7 +11,7 @@ ghost use Rattle.statement_syntax.specs.Statements.{Least as LeastOf};
 ghost use Rattle.problem_reading.specs.FromSessionMeaning.{meaning, numbered, with_names, target_name};
 ghost use Rattle.problem_reading.specs.FromSessionState.{state_of, HasIds, IsSessionState, GrowsState};
 ghost use Rattle.atom_normal.specs.Atoms.{context_of};
-ghost use Rattle.problem_reading.specs.FromCommandTools.{use_of, Refuses, IsQueryAnswer};
+ghost use Rattle.problem_reading.specs.FromCommandTools.{use_of, RefusesCommand, AnswersQuery};
 ghost use Rattle.least_queries.specs.Steps.{cause_of, IsProblemIn, IsProblemUnread};
 
 use crate::found::look;
@@ -40,10 +40,10 @@ pub fn answer_least<R: Threads + Sync, G: Gate + Sync>(
     requires target { IsWritableTerm (term_tree target.now) }
     requires session { IsSessionState state.old }
     ensures session { OnOk result (IsSessionState state.new) }
-    ensures answer { IfOk result (IsQueryAnswer (numbered (meaning (LeastOf (formulas_of (map formula_tree written.now)) (term_tree target.now))) (state_of state.old)) workshop.now.limits.nodes printed (LeastOf (formulas_of (map formula_tree written.now)) (term_tree target.now)) (state_of state.new).names) }
+    ensures answer { IfOk result (AnswersQuery (LeastOf (formulas_of (map formula_tree written.now)) (term_tree target.now)) (state_of state.old) workshop.now.limits.nodes printed (state_of state.new).names) }
     ensures next { OnOk result (state_of state.new ≡ with_names (numbered (meaning (LeastOf (formulas_of (map formula_tree written.now)) (term_tree target.now))) (state_of state.old)) (state_of state.new).names) }
     ensures given_back { OnOk result ((numbered (meaning (LeastOf (formulas_of (map formula_tree written.now)) (term_tree target.now))) (state_of state.old)).names ≡ (state_of state.new).names ++ target_name ∷ []) }
-    ensures refused { IfErr result (Refuses (numbered (meaning (LeastOf (formulas_of (map formula_tree written.now)) (term_tree target.now))) (state_of state.old)) workshop.now.limits.nodes (use_of None printed) (LeastOf (formulas_of (map formula_tree written.now)) (term_tree target.now))) }
+    ensures refused { IfErr result (RefusesCommand (LeastOf (formulas_of (map formula_tree written.now)) (term_tree target.now)) (state_of state.old) workshop.now.limits.nodes (use_of None printed)) }
     ensures grown { OnErr result (GrowsState state.old state.new) }
 {
     let Ok(problem) = problem(state.alloc, written, target) else {

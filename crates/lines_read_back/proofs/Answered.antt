@@ -20,7 +20,8 @@ use Rattle.session_meaning.specs.declared.line.StatementError.TheVariants as err
 use Rattle.resolved_formulas.specs.Answers.{with_inner}
 use Rattle.session_meaning.specs.State.{State, with_names, with_answers, known}
 use Rattle.session_meaning.specs.Words.{before}
-use Rattle.session_meaning.specs.Meaning.{Meaning, variables, meaning}
+use Rattle.session_meaning.specs.Meaning.{Meaning, meaning}
+use Rattle.session_meaning.specs.Numbered.{variables}
 use Rattle.session_meaning.specs.Uses.{Use}
 use Rattle.session_meaning.specs.Causes.{HasLongLine, MayBeCause, HasNone, IsFirst, IsAccepted}
 use Rattle.session_meaning.specs.Reply.{IsLine, IsReached, AnswersSaid, Answers, Reply}

@@ -23,7 +23,8 @@ use Rattle.printed_formulas.specs.Round.{AreVariables}
 use Rattle.session_meaning.specs.declared.line.Line.{Line}
 use Rattle.session_meaning.specs.State.{State, with_names, with_answers}
 use Rattle.session_meaning.specs.Grids.{lows}
-use Rattle.session_meaning.specs.Meaning.{variables, text_variables, numbered, meaning, assumption_meaning}
+use Rattle.session_meaning.specs.Meaning.{text_variables, meaning, assumption_meaning}
+use Rattle.session_meaning.specs.Numbered.{variables, numbered}
 use Rattle.session_meaning.specs.Inside.{GivesAll}
 use Rattle.session_meaning.specs.FormulaGiven.{GivesFormula}
 use Rattle.session_meaning.specs.Targets.{target_name, problem_names, problem_of}

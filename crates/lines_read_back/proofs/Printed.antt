@@ -36,7 +36,8 @@ use Rattle.session_meaning.specs.declared.line.Line.TheVariants as line
 use Rattle.session_meaning.specs.declared.line.StatementError.TheVariants as error
 use Rattle.session_meaning.specs.State.{State, with_names, with_answers, known}
 use Rattle.session_meaning.specs.FormulaAnswers.{negation_normal_of, IsSimplification, IsCleanAnswer, IsCondition}
-use Rattle.session_meaning.specs.Meaning.{Meaning, Answer, OfFormula, OfText, IsAllowed, MayGive, numbered, meaning}
+use Rattle.session_meaning.specs.Meaning.{Meaning, Answer, OfFormula, OfText, IsAllowed, MayGive, meaning}
+use Rattle.session_meaning.specs.Numbered.{numbered}
 use Rattle.session_meaning.specs.FormulaGiven.{GivesFormula}
 use Rattle.session_meaning.specs.Uses.{Use}
 use Rattle.session_meaning.specs.Causes.{SomeFormula, IsAccepted}

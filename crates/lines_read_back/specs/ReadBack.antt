@@ -19,7 +19,8 @@ use Rattle.session_meaning.specs.declared.line.Line.TheVariants as line
 use Rattle.session_meaning.specs.declared.line.StatementError.{StatementError}
 use Rattle.session_meaning.specs.declared.line.StatementError.TheVariants as error
 use Rattle.session_meaning.specs.State.{State}
-use Rattle.session_meaning.specs.Meaning.{meaning, numbered, MayGive}
+use Rattle.session_meaning.specs.Meaning.{meaning, MayGive}
+use Rattle.session_meaning.specs.Numbered.{numbered}
 use Rattle.session_meaning.specs.FormulaGiven.{GivesFormula}
 use Rattle.redlog_run.specs.FromSessionState.{IsSessionFormula}
 use Rattle.session_meaning.specs.Reply.{Reply}

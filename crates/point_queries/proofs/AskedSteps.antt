@@ -32,7 +32,8 @@ use Rattle.problem_reading.specs.FromSessionState.{SessionState, state_of, IsSes
 use Rattle.session_meaning.specs.State.{State, known}
 use Rattle.problem_reading.specs.Reading.{HasNumbers, IsReadable}
 use Rattle.point_queries.specs.Asked.{HaveNumbers, RefusesBoth, entry_names, IsReadAs, IsMeantPoint, PointStop, IsValued, ValuedStop, IsAsked}
-use Rattle.session_meaning.specs.Meaning.{meaning, numbered}
+use Rattle.session_meaning.specs.Meaning.{meaning}
+use Rattle.session_meaning.specs.Numbered.{numbered}
 use Rattle.session_meaning.specs.Points.{MeanNoPoint}
 use Rattle.point_queries.proofs.AskedLemmas.{no_point, not_valued, reading_passes, point_passes, all_clear}
 use Rattle.point_queries.proofs.CaseSteps.{on_ok}

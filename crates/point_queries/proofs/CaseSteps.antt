@@ -39,7 +39,8 @@ use Rattle.problem_reading.specs.FromSharedForms.way_variants as way
 use Rattle.problem_reading.specs.FromCommandTools.{use_of, Refuses, IsQueryAnswer, forms_refusal, LineFault}
 use Rattle.point_queries.specs.CaseLists.{CasesRefuse}
 use Rattle.problem_reading.specs.Reading.{AreNumbered, AreReadable, AreUnread}
-use Rattle.session_meaning.specs.Meaning.{meaning, numbered, Meaning}
+use Rattle.session_meaning.specs.Meaning.{meaning, Meaning}
+use Rattle.session_meaning.specs.Numbered.{numbered}
 use Rattle.session_meaning.specs.Uses.{Use}
 use Rattle.session_meaning.specs.Causes.{HasNone, IsAccepted}
 use Rattle.session_meaning.specs.Reply.{IsLine}

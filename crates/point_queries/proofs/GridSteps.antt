@@ -38,7 +38,8 @@ use Rattle.session_meaning.specs.declared.line.StatementError.{StatementError}
 use Rattle.session_meaning.specs.declared.line.StatementError.TheVariants as error
 use Rattle.session_meaning.specs.State.{State, known}
 use Rattle.session_meaning.specs.Grids.{lows, MeanNoGrid, IsGridAnswer, grid_text}
-use Rattle.session_meaning.specs.Meaning.{meaning, numbered}
+use Rattle.session_meaning.specs.Meaning.{meaning}
+use Rattle.session_meaning.specs.Numbered.{numbered}
 use Rattle.session_meaning.specs.Reply.{IsLine}
 use Rattle.problem_reading.specs.FromCommandTools.{use_of, Refuses, IsQueryAnswer}
 use Rattle.session_meaning.specs.Places.{by_names}

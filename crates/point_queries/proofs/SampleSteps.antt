@@ -40,7 +40,8 @@ use Rattle.session_meaning.specs.State.{State, known}
 use Rattle.problem_reading.specs.FromCommandTools.{use_of, Refuses, IsQueryAnswer, measured_refusal}
 use Rattle.problem_reading.specs.Reading.{HasNumbers}
 use Rattle.point_queries.specs.Asked.{entry_names, IsAsked}
-use Rattle.session_meaning.specs.Meaning.{meaning, numbered}
+use Rattle.session_meaning.specs.Meaning.{meaning}
+use Rattle.session_meaning.specs.Numbered.{numbered}
 use Rattle.session_meaning.specs.Reply.{IsLine}
 use Rattle.session_meaning.specs.Samples.{sample_text}
 use Rattle.point_queries.specs.SampleSteps.{RefusesSample, SampleStop, IsSampleWithin, IsWantedSample}

@@ -7,14 +7,21 @@ use Rattle.qe_syntax.specs.CodeTrees.{formula_tree}
 use Rattle.problem_reading.specs.FromSessionState.{answered_tree}
 use Rattle.session_meaning.specs.declared.line.StatementError.{StatementError}
 use Rattle.session_meaning.specs.declared.line.StatementError.TheVariants as error
-use Rattle.session_meaning.specs.State.{State}
-use Rattle.problem_reading.specs.FromSharedForms.{Way}
+use Rattle.resolved_formulas.specs.Resolving.{resolve}
+use Rattle.session_meaning.specs.Assumptions.{assumed}
+use Rattle.session_meaning.specs.State.{State, known}
+use Rattle.elimination_reference.specs.Cases.{Case}
+use Rattle.problem_reading.specs.FromSharedForms.{Way, AreCasesBy}
 use Rattle.problem_reading.specs.FromSharedForms.way_variants as way
 use Rattle.problem_reading.specs.FromCommandTools.{use_of, Refuses}
 
 -- the command that asks for the cases of a formula under assumptions
 abbrev pub cases_command : Formula → List Formula → CommandTree
 cases_command formula given = Qea (answered_tree formula) (formulas_of (map formula_tree given))
+
+-- these are cases of the resolved formula under the standing assumptions and the given ones, found in this way
+abbrev pub AreCasesIn : Way → State → ℕ → FormulaTree → FormulaTrees → List Case → Type 0
+AreCasesIn w s limit f given cases = AreCasesBy w s.context (assumed s given) limit (resolve s.context (known s) s.names f) cases
 
 -- the command is refused; of a list by cases that is too long nothing is said
 abbrev pub CasesRefuse : Way → State → ℕ → Bool → FormulaTree → FormulaTrees → StatementError → Type 0

@@ -1,2 +1,2 @@
 -- What the crates above name of `command_tools`.
-pub use Rattle.problem_reading.specs.FromCommandTools.{BindsFormula, IsFormulaAnswer, IsLongText, IsQueryAnswer, IsStopped, LineFault, Refuses, forms_refusal, read_refusal, state_with, static_refusal, use_of}
+pub use Rattle.problem_reading.specs.FromCommandTools.{AnswersFormula, AnswersQuery, BindsFormula, IsFormulaAnswer, IsLongText, IsQueryAnswer, IsStopped, LineFault, Refuses, RefusesCommand, forms_refusal, read_refusal, state_with, static_refusal, use_of}

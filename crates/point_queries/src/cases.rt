@@ -3,20 +3,17 @@
 ghost use Rattle.formula_meaning.specs.Formula.{also};
 ghost use Rattle.std.specs.Prelude.{◌≡◌, ◌≤◌, Bool, None, map, IfOk, IfErr, OnOk, OnErr, length};
 ghost use Rattle.session_meaning.specs.FromPlainCases.{case_seen, HavePoints};
-ghost use Rattle.resolved_formulas.specs.Resolving.{resolve};
 ghost use Rattle.session_meaning.specs.FromAnswerTexts.{cases_text as text_of_cases, AreCasesWithin};
 ghost use Rattle.qe_syntax.specs.Writable.{AreWritableFormulas};
 ghost use Rattle.qe_syntax.specs.Trees.{formulas_of};
 ghost use Rattle.qe_syntax.specs.CodeTrees.{formula_tree};
-ghost use Rattle.session_meaning.specs.Assumptions.{assumed};
-ghost use Rattle.session_meaning.specs.State.{known};
-ghost use Rattle.problem_reading.specs.FromCommandTools.{use_of, Refuses, IsQueryAnswer, LineFault};
+ghost use Rattle.problem_reading.specs.FromCommandTools.{use_of, Refuses, RefusesCommand, IsQueryAnswer, AnswersQuery, LineFault};
 ghost use Rattle.problem_reading.specs.Reading.{AreNumbered, AreReadable};
-ghost use Rattle.session_meaning.specs.Meaning.{meaning, numbered};
+ghost use Rattle.session_meaning.specs.Meaning.{meaning};
+ghost use Rattle.session_meaning.specs.Numbered.{numbered};
 ghost use Rattle.session_meaning.specs.Reply.{IsLine};
 ghost use Rattle.problem_reading.specs.FromSessionState.{state_of, IsSessionState, KeepsState, GrowsState, HasAnswers, answered_tree};
-ghost use Rattle.problem_reading.specs.FromSharedForms.{AreCasesBy};
-ghost use Rattle.point_queries.specs.CaseLists.{CasesRefuse, cases_command};
+ghost use Rattle.point_queries.specs.CaseLists.{AreCasesIn, CasesRefuse, cases_command};
 
 use problem_reading::{
     SessionState, Way, Workshop, forms_refusal, number_parts, print_refusal, read_parts,
@@ -40,9 +37,9 @@ pub fn answer_cases<R: Threads + Sync, G: Gate + Sync>(
     requires given { AreWritableFormulas (formulas_of (map formula_tree given.now)) }
     requires session { IsSessionState state.old }
     ensures session { OnOk result (IsSessionState state.new) }
-    ensures answer { IfOk result (IsQueryAnswer (numbered (meaning (cases_command formula.now given.now)) (state_of state.old)) workshop.now.limits.nodes printed (cases_command formula.now given.now) (state_of state.new).names) }
+    ensures answer { IfOk result (AnswersQuery (cases_command formula.now given.now) (state_of state.old) workshop.now.limits.nodes printed (state_of state.new).names) }
     ensures next { OnOk result (state_of state.new ≡ numbered (meaning (cases_command formula.now given.now)) (state_of state.old)) }
-    ensures refused { IfErr result (Refuses (numbered (meaning (cases_command formula.now given.now)) (state_of state.old)) workshop.now.limits.nodes (use_of None printed) (cases_command formula.now given.now)) }
+    ensures refused { IfErr result (RefusesCommand (cases_command formula.now given.now) (state_of state.old) workshop.now.limits.nodes (use_of None printed)) }
     ensures grown { OnErr result (GrowsState state.old state.new) }
 {
     number_parts(formula, given, &state.bindings, &mut state.names)?;
@@ -111,7 +108,7 @@ fn cases_of<R: Threads + Sync, G: Gate + Sync>(
     requires given { AreWritableFormulas (formulas_of (map formula_tree given.now)) }
     requires session { IsSessionState state.old }
     requires numbered { AreNumbered state.old.names (also (answered_tree formula.now) (formulas_of (map formula_tree given.now))) }
-    ensures cases { IfOk result (λ v. AreCasesBy way (state_of state.old).context (assumed (state_of state.old) (formulas_of (map formula_tree given.now))) workshop.now.limits.nodes (resolve (state_of state.old).context (known (state_of state.old)) state.old.names (answered_tree formula.now)) (map case_seen v.items)) }
+    ensures cases { IfOk result (λ v. AreCasesIn way (state_of state.old) workshop.now.limits.nodes (answered_tree formula.now) (formulas_of (map formula_tree given.now)) (map case_seen v.items)) }
     ensures points { IfOk result (λ v. HavePoints v.items) }
     ensures readable { OnOk result (AreReadable (state_of state.old) (also (answered_tree formula.now) (formulas_of (map formula_tree given.now)))) }
     ensures refused { IfErr result (λ e. (printed : Bool) → Refuses (state_of state.old) workshop.now.limits.nodes (use_of None printed) (cases_command formula.now given.now) e) }

@@ -16,10 +16,11 @@ ghost use Rattle.formula_store.specs.Truths.{IsWholeWhereAsked};
 ghost use Rattle.point_grid.specs.Frames.{points_of, most_points};
 ghost use Rattle.point_grid.specs.Truths.{IsTruthList};
 ghost use Rattle.session_meaning.specs.Grids.{lows as lows_of, IsFlat, IsFraction, IsAxis, AreAxes, IsGridAnswer, grid_text, MeanNoGrid};
-ghost use Rattle.session_meaning.specs.Meaning.{meaning, numbered};
+ghost use Rattle.session_meaning.specs.Meaning.{meaning};
+ghost use Rattle.session_meaning.specs.Numbered.{numbered};
 ghost use Rattle.session_meaning.specs.Reply.{IsLine};
 ghost use Rattle.problem_reading.specs.FromSessionState.{state_of, IsSessionState, KeepsState, GrowsState, HasAnswers, answered_tree};
-ghost use Rattle.problem_reading.specs.FromCommandTools.{use_of, Refuses, IsQueryAnswer};
+ghost use Rattle.problem_reading.specs.FromCommandTools.{use_of, RefusesCommand, AnswersQuery};
 ghost use Rattle.problem_reading.specs.Reading.{HasNumbers};
 ghost use Rattle.point_queries.specs.Asked.{HaveNumbers, entry_names};
 ghost use Rattle.point_queries.specs.GridSteps.{part_entry, IsDivided, IsPastRatio, IsPastAxis, AcceptsGrid, RefusesGrid, AxesStop, IsMeantGrid, NoGrid, TruthsStop};
@@ -58,9 +59,9 @@ pub fn answer_grid<R: Threads + Sync, G: Gate + Sync>(
     requires axes { AreWritableAxes axes.now }
     requires session { IsSessionState state.old }
     ensures session { OnOk result (IsSessionState state.new) }
-    ensures answer { IfOk result (IsQueryAnswer (numbered (meaning (GridOf (answered_tree formula.now) axes.now)) (state_of state.old)) workshop.now.limits.nodes printed (GridOf (answered_tree formula.now) axes.now) (state_of state.new).names) }
+    ensures answer { IfOk result (AnswersQuery (GridOf (answered_tree formula.now) axes.now) (state_of state.old) workshop.now.limits.nodes printed (state_of state.new).names) }
     ensures next { OnOk result (state_of state.new ≡ numbered (meaning (GridOf (answered_tree formula.now) axes.now)) (state_of state.old)) }
-    ensures refused { IfErr result (Refuses (numbered (meaning (GridOf (answered_tree formula.now) axes.now)) (state_of state.old)) workshop.now.limits.nodes (use_of None printed) (GridOf (answered_tree formula.now) axes.now)) }
+    ensures refused { IfErr result (RefusesCommand (GridOf (answered_tree formula.now) axes.now) (state_of state.old) workshop.now.limits.nodes (use_of None printed)) }
     ensures grown { OnErr result (GrowsState state.old state.new) }
 {
     let lows = entries_of(state.alloc, axes, Part::Low)?;

@@ -16,10 +16,11 @@ ghost use Rattle.formula_store.specs.Nodes.{tree, IsId};
 ghost use Rattle.sample_reference.specs.TrueSample.{IsTrueSample};
 ghost use Rattle.sample_reference.specs.Seen.{sample_of};
 ghost use Rattle.redlog_printer.specs.Writing.{text_limit};
-ghost use Rattle.problem_reading.specs.FromCommandTools.{use_of, Refuses, IsQueryAnswer};
+ghost use Rattle.problem_reading.specs.FromCommandTools.{use_of, RefusesCommand, AnswersQuery};
 ghost use Rattle.problem_reading.specs.Reading.{HasNumbers};
 ghost use Rattle.point_queries.specs.Asked.{HaveNumbers};
-ghost use Rattle.session_meaning.specs.Meaning.{meaning, numbered};
+ghost use Rattle.session_meaning.specs.Meaning.{meaning};
+ghost use Rattle.session_meaning.specs.Numbered.{numbered};
 ghost use Rattle.session_meaning.specs.Reply.{IsLine};
 ghost use Rattle.problem_reading.specs.FromSessionState.{state_of, IsSessionState, KeepsState, GrowsState, HasAnswers, answered_tree};
 ghost use Rattle.session_meaning.specs.Samples.{sample_text};
@@ -49,9 +50,9 @@ pub fn answer_sample<R: Threads + Sync, G: Gate + Sync>(
     requires entries { AreWritableEntries entries.now }
     requires session { IsSessionState state.old }
     ensures session { OnOk result (IsSessionState state.new) }
-    ensures answer { IfOk result (IsQueryAnswer (numbered (meaning (Sample (answered_tree formula.now) entries.now)) (state_of state.old)) workshop.now.limits.nodes printed (Sample (answered_tree formula.now) entries.now) (state_of state.new).names) }
+    ensures answer { IfOk result (AnswersQuery (Sample (answered_tree formula.now) entries.now) (state_of state.old) workshop.now.limits.nodes printed (state_of state.new).names) }
     ensures next { OnOk result (state_of state.new ≡ numbered (meaning (Sample (answered_tree formula.now) entries.now)) (state_of state.old)) }
-    ensures refused { IfErr result (Refuses (numbered (meaning (Sample (answered_tree formula.now) entries.now)) (state_of state.old)) workshop.now.limits.nodes (use_of None printed) (Sample (answered_tree formula.now) entries.now)) }
+    ensures refused { IfErr result (RefusesCommand (Sample (answered_tree formula.now) entries.now) (state_of state.old) workshop.now.limits.nodes (use_of None printed)) }
     ensures grown { OnErr result (GrowsState state.old state.new) }
 {
     number_command(formula, entries, &state.bindings, &mut state.names)?;

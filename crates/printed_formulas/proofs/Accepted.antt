@@ -16,7 +16,7 @@ use Rattle.formula_meaning.specs.Tree.{Tree, Trees}
 use Rattle.formula_meaning.proofs.EachAtom.{every_map}
 use Rattle.atom_normal.specs.NormalForm.{IsNormal, ConstantPasses}
 use Rattle.qe_syntax.specs.Trees as tree
-use Rattle.qe_syntax.specs.Trees.{TermTree, TermTrees, Number, Named, Product, Sum, Negative, terms_of, WrittenAtom, FormulaTree, FormulaTrees}
+use Rattle.qe_syntax.specs.Trees.{TermTree, TermTrees, Named, Product, Sum, terms_of, WrittenAtom, FormulaTree}
 use Rattle.qe_syntax.specs.Value.{same_name}
 use Rattle.redlog_reader.specs.Grammar.{sum_of}
 use Rattle.resolved_formulas.specs.RationalForms.{RationalForm, Missing, is_constant, formed, product_of_forms}

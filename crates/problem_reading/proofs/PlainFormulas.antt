@@ -1,5 +1,5 @@
 -- Answers of the commands inside a formula; one whose names can be written has no place for an answer, and names of answers change nothing in it.
-use Rattle.std.proofs.Common.{◌≡◌, ℕ, ◌≤◌, List, length, sym, ap, ◌∙◌, subst, arith}
+use Rattle.std.proofs.Common.{◌≡◌, ℕ, ◌≤◌, List, length, sym, ap, subst, arith}
 use Rattle.std.specs.Prelude.{Result, Ok, Err, OnOk, OnErr}
 use Rattle.qe_syntax.specs.declared.tree.Formula.{Formula}
 use Rattle.qe_syntax.specs.Holes.{command_count}
@@ -8,9 +8,7 @@ use Rattle.qe_syntax.specs.Writable.{IsWritableFormula}
 use Rattle.qe_syntax.specs.CodeTrees.{formula_tree, inner_of, named_tree}
 use Rattle.qe_syntax.proofs.Alone.{still, no_hole}
 use Rattle.resolved_formulas.specs.NamesAfter.{names_after}
-use Rattle.resolved_formulas.specs.Resolving.{formula_variables}
-use Rattle.formula_resolving.proofs.HoleNames.{variables_named}
-use Rattle.command_tools.specs.FromSessionState.{SessionState, KeepsState, IsScripted, HasAnswers, answered_tree}
+use Rattle.command_tools.specs.FromSessionState.{SessionState, KeepsState, IsScripted, HasAnswers}
 use Rattle.command_tools.proofs.FromSessionState.{scripted}
 
 no_places : (f : Formula) → IsWritableFormula (formula_tree f) → (n : ℕ) → command_count (inner_of f) ≤ n

@@ -1,17 +1,16 @@
 -- Formulas inside which no command stands: they have no hole, and names of answers change nothing in them.
-use Rattle.std.proofs.Common.{◌≡◌, ℕ, ◌+◌, List, [], ◌∷◌, Bool, true, false, refl, sym, subst, ap, ◌∙◌}
+use Rattle.std.proofs.Common.{◌≡◌, ℕ, suc, ◌+◌, List, [], ◌∷◌, Bool, true, false, replicate, refl, sym, subst, ap, ◌∙◌, arith}
 use Rattle.std.specs.Prelude.{map}
-use Rattle.std.specs.declared.boxed.Box.{Box}
-use Rattle.std.specs.declared.alloc.Global.{Global}
 use Rattle.formula_meaning.specs.Formula as plain
 use Rattle.qe_syntax.specs.declared.tree.Formula as written
 use Rattle.qe_syntax.specs.declared.tree.Formula.TheVariants as formula
 use Rattle.qe_syntax.specs.declared.tree.Formula.TheOpen as layer
-use Rattle.qe_syntax.specs.declared.tree.Formula.TheFolds.{ind-Formula, ind-Formulas}
+use Rattle.qe_syntax.specs.declared.tree.Formula.TheFolds.{ind-Formula}
 use Rattle.qe_syntax.specs.declared.tree.Formulas as writtens
 use Rattle.qe_syntax.specs.declared.tree.InnerCommand as commands
-use Rattle.qe_syntax.specs.Trees.{FormulaTree, FormulaTrees}
-use Rattle.qe_syntax.specs.Holes.{Nest, Nests, alone, beside, together, Holed, hole, whole, over, over_both, all_of, computed}
+use Rattle.qe_syntax.specs.Names.{IsVariable, begins_with_letter}
+use Rattle.qe_syntax.specs.Trees.{FormulaTree}
+use Rattle.qe_syntax.specs.Holes.{Nests, alone, beside, together, command_count, Holed, hole, inner_name, whole, over, over_both, all_of}
 use Rattle.qe_syntax.specs.Writable.{IsWritableFormula, AreWritableFormulas}
 use Rattle.qe_syntax.specs.CodeTrees.{whole_formula, whole_formulas, formula_tree, formula_trees, inner_of, inners_of, named_tree, named_trees}
 use Rattle.qe_syntax.proofs.TreeEquations.{whole-True, whole-False, whole-Compare, whole-Cong, whole-Ncong, whole-Not, whole-And, whole-Or, whole-Impl, whole-Repl, whole-Equiv, whole-Ex, whole-All, whole-Named, whole-Computed, wholes-list, wholes-out}
@@ -21,7 +20,7 @@ IsAlone alone = Unit {0}
 IsAlone (beside n ns) = ⊥
 
 -- two lists of commands are empty where they are so together
-pub alone_both : (ns ms : Nests) → together ns ms ≡ alone → (ns ≡ alone) × (ms ≡ alone)
+alone_both : (ns ms : Nests) → together ns ms ≡ alone → (ns ≡ alone) × (ms ≡ alone)
 alone_both alone ms e = (refl, e)
 alone_both (beside n ns) ms e = absurd (subst IsAlone (sym e) tt)
 
@@ -29,16 +28,22 @@ pub both_alone : (ns ms : Nests) → ns ≡ alone → ms ≡ alone → together 
 both_alone alone ms e d = d
 both_alone (beside n ns) ms e d = absurd (subst IsAlone (sym e) tt)
 
--- Where no command stands inside, names of answers change nothing; and none does where each name of the tree can be written, since a hole is none.
+-- Where no command stands inside, names of answers change nothing. And none does where each name of the tree can be written, since a hole is none, or each name
+-- of the tree with the names of answers in its holes, whatever the first of these is.
 pub record IsPlain {F : Type 0} (Writable : F → Type 0) (h : Holed F) : Type 0 where
   pub still : h.inner ≡ alone → (k : ℕ) → h.named k ≡ h.tree
   pub no_hole : Writable h.tree → h.inner ≡ alone
+  pub no_answer : (k : ℕ) → Writable (h.named k) → h.inner ≡ alone
 
 plain_whole : {F : Type 0} (W : F → Type 0) (f : F) → IsPlain W (whole f)
-plain_whole W f = record { still = λ e k. refl; no_hole = λ w. refl }
+plain_whole W f = record { still = λ e k. refl; no_hole = λ w. refl; no_answer = λ k w. refl }
 
 plain_over : {F G : Type 0} (V : F → Type 0) (W : G → Type 0) (g : F → G) (h : Holed F) → ((f : F) → W (g f) → V f) → IsPlain V h → IsPlain W (over g h)
-plain_over V W g h below p = record { still = λ e k. ap g (p.still e k); no_hole = λ w. p.no_hole (below h.tree w) }
+plain_over V W g h below p = record {
+  still = λ e k. ap g (p.still e k);
+  no_hole = λ w. p.no_hole (below h.tree w);
+  no_answer = λ k w. p.no_answer k (below (h.named k) w);
+}
 
 plain_both : {F G H : Type 0} (V : F → Type 0) (U : G → Type 0) (W : H → Type 0) (g : F → G → H) (h : Holed F) (i : Holed G)
     → ((a : F) (b : G) → W (g a b) → V a × U b) → IsPlain V h → IsPlain U i → IsPlain W (over_both g h i)
@@ -46,7 +51,13 @@ plain_both V U W g h i below p q =
     let still : together h.inner i.inner ≡ alone → (k : ℕ) → (over_both g h i).named k ≡ g h.tree i.tree = λ e k.
     let both = alone_both h.inner i.inner e in
     ap (λ a. g a ((over_both (λ a b. b) h i).named k)) (p.still both.0 k) ∙ ap (g h.tree) (q.still both.1 _) in
-    record { still = still; no_hole = λ w. let both = below h.tree i.tree w in both_alone h.inner i.inner (p.no_hole both.0) (q.no_hole both.1) }
+    record {
+      still = still;
+      no_hole = λ w. let both = below h.tree i.tree w in both_alone h.inner i.inner (p.no_hole both.0) (q.no_hole both.1);
+      no_answer = λ k w.
+          let both = below (h.named k) (i.named (k + command_count h.inner)) w in
+          both_alone h.inner i.inner (p.no_answer k both.0) (q.no_answer (k + command_count h.inner) both.1);
+    }
 
 abbrev PlainFormula : written.Formula → Type 0
 PlainFormula f = IsPlain IsWritableFormula (whole_formula f)
@@ -73,7 +84,13 @@ IsNo false = Unit {0}
 no_variable : IsWritableFormula hole → ⊥
 no_variable w = subst IsNo w.begins tt
 
-pub plain_formula : (f : written.Formula) → PlainFormula f
+-- the name of an answer begins with a zero byte
+no_answer_name : (k : ℕ) → IsVariable (inner_name k) → ⊥
+no_answer_name k w =
+    let more : 65 + k ≡ suc (64 + k) = omega arith in
+    subst IsNo (subst (λ n. begins_with_letter (replicate n 0) ≡ true) more w.begins) tt
+
+plain_formula : (f : written.Formula) → PlainFormula f
 plain_formula = ind-Formula PlainFormula (λ c. Unit {0}) PlainFormulas (λ x y is. subst (λ z. PlainFormula (written.roll-Formula z)) is (at y)) (λ x y is. tt)
     (λ x y is. subst (λ z. PlainFormulas (writtens.roll-Formulas z)) is (listed y))
   where
@@ -103,10 +120,10 @@ plain_formula = ind-Formula PlainFormula (λ c. Unit {0}) PlainFormulas (λ x y 
     at (layer.All x f) = made _ (formula.All x _) _ (formula.rolls-All x _) (whole-All x _) (plain_over W W (plain.All x) (whole_formula f.value.0) (λ a w. w.1) f.value.1)
     at (layer.Named x) = made (layer.Named x) (formula.Named x) _ (formula.rolls-Named x) (whole-Named x) (plain_whole W _)
     at (layer.Computed c) = made _ (formula.Computed _) _ (formula.rolls-Computed _) (whole-Computed _)
-        (record { still = λ e k. absurd (subst IsAlone (sym e) tt); no_hole = λ w. absurd (no_variable w) })
+        (record { still = λ e k. absurd (subst IsAlone (sym e) tt); no_hole = λ w. absurd (no_variable w); no_answer = λ k w. absurd (no_answer_name k w) })
 
 -- the same of a list
-pub plain_formulas : (fs : writtens.Formulas) → PlainFormulas fs
+plain_formulas : (fs : writtens.Formulas) → PlainFormulas fs
 plain_formulas fs = subst (IsPlain AreWritableFormulas) (sym (wholes-out fs)) (plain_members (writtens.out-Formulas fs).list.items)
   where
     plain_members : (gs : List written.Formula) → PlainList gs
@@ -118,15 +135,17 @@ pub still : (f : written.Formula) → inner_of f ≡ alone → (k : ℕ) → nam
 unfolding inner_of named_tree formula_tree
 still f e k = (plain_formula f).still e k
 
-pub all_still : (fs : writtens.Formulas) → inners_of fs ≡ alone → (k : ℕ) → named_trees k fs ≡ formula_trees fs
-unfolding inners_of named_trees formula_trees
-all_still fs e k = (plain_formulas fs).still e k
-
 -- no command stands inside a formula whose names can be written
 pub no_hole : (f : written.Formula) → IsWritableFormula (formula_tree f) → inner_of f ≡ alone
 unfolding inner_of formula_tree
 no_hole f w = (plain_formula f).no_hole w
 
-pub no_holes : (fs : writtens.Formulas) → AreWritableFormulas (formula_trees fs) → inners_of fs ≡ alone
-unfolding inners_of formula_trees
-no_holes fs w = (plain_formulas fs).no_hole w
+-- nor inside formulas whose names can be written, with the names of answers in their holes
+pub no_answers : (fs : writtens.Formulas) (k : ℕ) → AreWritableFormulas (named_trees k fs) → inners_of fs ≡ alone
+unfolding inners_of named_trees
+no_answers fs k w = (plain_formulas fs).no_answer k w
+
+-- so these names change nothing in them
+pub all_same_named : (fs : writtens.Formulas) (k : ℕ) → AreWritableFormulas (named_trees k fs) → named_trees k fs ≡ formula_trees fs
+unfolding inners_of named_trees formula_trees
+all_same_named fs k w = (plain_formulas fs).still (no_answers fs k w) k

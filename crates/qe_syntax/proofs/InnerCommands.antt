@@ -1,6 +1,6 @@
 -- Formulas that are no commands.
 use Rattle.std.proofs.Common.{◌≡◌, ℕ, List, [], ◌∷◌, ap, sym, ◌∙◌, refl, subst}
-use Rattle.std.specs.Prelude.{Option, None}
+use Rattle.std.specs.Prelude.{None}
 use Rattle.std.specs.declared.boxed.Box.{Box}
 use Rattle.std.specs.declared.alloc.Global.{Global}
 use Rattle.qe_syntax.specs.declared.tree.Formula as written

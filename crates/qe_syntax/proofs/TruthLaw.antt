@@ -11,7 +11,7 @@ use Rattle.std.proofs.lemmas.Bool.Decides.{Decides-not, Decides-and, Decides-or}
 use Rattle.formula_meaning.specs.FromExactNumbers.{Frac, IsProper, true_sum, negated, sum_step}
 use Rattle.formula_meaning.proofs.FromExactNumbers.{ring, mul_positive, by_compare, compare_mul, compare_sub}
 use Rattle.formula_meaning.specs.Context.{Fields}
-use Rattle.formula_meaning.specs.Formula.{Formula, Formulas, Yes, No, One, Not, And, Or, Impl, Repl, Equiv, Ex, All}
+use Rattle.formula_meaning.specs.Formula.{Formula, Yes, No, One, Not, And, Or, Impl, Repl, Equiv, Ex, All}
 use Rattle.formula_meaning.specs.Formula as plain
 use Rattle.formula_meaning.specs.Point.{move}
 use Rattle.formula_meaning.specs.Truth.{AllTrue, SomeTrue}

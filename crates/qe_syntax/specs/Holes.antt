@@ -1,5 +1,5 @@
 -- Commands inside formulas. A formula in which commands stand is a tree with a hole at each of these, and the commands beside it.
-use Rattle.std.specs.Prelude.{ℕ, ◌+◌, Bool, true, false, List, [], ◌∷◌, replicate, Option, Some, None}
+use Rattle.std.specs.Prelude.{ℕ, ◌+◌, List, [], ◌∷◌, replicate, Option, Some, None}
 use Rattle.formula_meaning.specs.Formula.{One}
 use Rattle.formula_meaning.specs.Formula as plain
 use Rattle.qe_syntax.specs.Trees.{Bound, FormulaTree, FormulaTrees}
@@ -36,11 +36,6 @@ mutual
 abbrev pub command_count : Nests → ℕ
 command_count alone = 0
 command_count (beside n ns) = 1 + command_count ns
-
--- whether there is one
-abbrev pub is_some_command : Nests → Bool
-is_some_command alone = false
-is_some_command (beside n ns) = true
 
 -- the first ones before the second
 abbrev pub together : Nests → Nests → Nests

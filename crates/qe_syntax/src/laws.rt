@@ -1,5 +1,5 @@
 //! Laws of the definitions, each the contract of a function with an empty body, so that the check proves it.
-ghost use Rattle.std.specs.Prelude.{◌≡◌, ℕ, List};
+ghost use Rattle.std.specs.Prelude.{◌≡◌, List};
 ghost use Rattle.formula_meaning.specs.Some.{SomeOf};
 ghost use Rattle.qe_syntax.specs.Value.{NamedPoint};
 ghost use Rattle.qe_syntax.specs.Point.{IsZeroBelow, IsPointOf};

@@ -1,4 +1,4 @@
-ghost use Rattle.std.specs.Prelude.{◌≡◌, ℤ, pos, map, IfOk};
+ghost use Rattle.std.specs.Prelude.{◌≡◌, pos, map, IfOk};
 ghost use Rattle.formula_meaning.specs.FromExactNumbers.{frac_of, SameValue, IsLowest, whole_frac, lowest};
 ghost use Rattle.qe_syntax.specs.Trees.{terms_of};
 ghost use Rattle.qe_syntax.specs.CodeTrees.{term_tree};

@@ -3,7 +3,7 @@ use Rattle.std.proofs.Common.{◌≡◌, [], ◌∷◌, refl, codes}
 use Rattle.std.specs.Prelude.{pos, neg_ℤ, ℤ, Some, None, List}
 use Rattle.formula_meaning.specs.Formula.{One, Impl, Repl, Ex}
 use Rattle.qe_syntax.specs.Trees.{TermTree, Named, Product, Quotient, Negative, Sum, Bound, Compare, Cong, terms_of, FormulaTree, formulas_of}
-use Rattle.qe_syntax.specs.Holes.{Nests, alone, beside, nest, inner_name, whole, over_both, all_of, computed}
+use Rattle.qe_syntax.specs.Holes.{alone, beside, nest, inner_name, whole, computed}
 use Rattle.qe_syntax.specs.Holes as inside
 use Rattle.qe_syntax.specs.declared.tree.Literal.TheVariants.{Fits}
 use Rattle.qe_syntax.specs.declared.tree.Relation.TheVariants.{Equal, Differs, Less, AtMost, Greater}

@@ -1,14 +1,13 @@
 //! Commands inside formulas: their words, and what they may assume.
 
 ghost use Rattle.std.specs.Prelude.{◌≡◌, ◌∷◌, [], List, map, IfOk, IfErr};
-ghost use Rattle.formula_meaning.specs.Formula.{One};
 ghost use Rattle.qe_syntax.specs.Trees.{Compare};
-ghost use Rattle.qe_syntax.specs.Holes.{whole, computed};
+ghost use Rattle.qe_syntax.specs.Holes.{computed};
 ghost use Rattle.qe_syntax.specs.CodeTrees.{term_tree, whole_formula, whole_command};
 ghost use Rattle.redlog_reader.specs.Grammar.{inner_word, takes_given, command};
 ghost use Rattle.redlog_reader.specs.Machine.{Frame, Group, Relates, AtomWanted, GivenEnd, Moves, Fails, with_atom, answered, separated, enclosed, congruence_read, commands, braced, atom_begins, atom_ends, given_ends};
 ghost use Rattle.redlog_reader.specs.Reading.{Refuses};
-ghost use Rattle.redlog_reader.specs.View.{reading_of, call_of, frame_of, frames, outcome_of};
+ghost use Rattle.redlog_reader.specs.View.{reading_of, call_of, frames, outcome_of};
 
 use crate::ending::put;
 use crate::inner_word::InnerWord;

@@ -1,6 +1,6 @@
 -- What names stand for beside the answers of commands.
 use Rattle.std.proofs.Common.{◌≡◌, ℕ, zero, suc, ◌+◌, ◌<◌, ◌≤◌, Bool, true, false, ◌&&◌, List, [], ◌∷◌, ◌++◌, length, refl, ap, ◌∙◌, subst, arith, eq-eqb}
-use Rattle.std.specs.Prelude.{nat_eq, replicate, slice_get, Option, Some, if◌then◌else◌}
+use Rattle.std.specs.Prelude.{nat_eq, slice_get, Some, if◌then◌else◌}
 use Rattle.std.specs.Map.{lookup}
 use Rattle.std.proofs.lemmas.List.{length-replicate}
 use Rattle.formula_meaning.specs.Tree.{Tree}
@@ -8,7 +8,7 @@ use Rattle.qe_syntax.specs.Value.{same_name}
 use Rattle.qe_syntax.specs.Holes.{inner_name}
 use Rattle.formula_tree.specs.Bindings.{bound_to}
 use Rattle.resolved_formulas.specs.Resolving.{BoundTrees}
-use Rattle.resolved_formulas.specs.Answers.{answers_from, with_inner}
+use Rattle.resolved_formulas.specs.Answers.{answers_from}
 
 and_false : (b : Bool) → (b && false) ≡ false
 and_false true = refl

@@ -10,7 +10,7 @@ use Rattle.qe_syntax.proofs.FromFormulaMeaning.{every_map}
 use Rattle.atom_normal.proofs.NormalLaws.{normal_names}
 use Rattle.qe_syntax.specs.declared.tree.Relation.{Relation}
 use Rattle.qe_syntax.specs.Trees as term
-use Rattle.qe_syntax.specs.Trees.{TermTree, TermTrees, Number, Named, Sum, Product, Quotient, Power, Negative, WrittenAtom, Compare, Cong, Ncong, Bound, FormulaTree}
+use Rattle.qe_syntax.specs.Trees.{TermTree, TermTrees, Number, Named, Sum, Product, Quotient, Power, Negative, WrittenAtom, Compare, Cong, Ncong, Bound}
 use Rattle.qe_syntax.specs.Value.{HasName, HaveName, relation_of}
 use Rattle.resolved_formulas.specs.RationalForms.{RationalForm, formed, formed_difference}
 use Rattle.resolved_formulas.specs.Resolving.{BoundTrees, compared, congruent, resolved_atom, MentionsNumber}

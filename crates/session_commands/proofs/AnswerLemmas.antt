@@ -1,6 +1,6 @@
 -- What a formula command answers is the answer of its statement.
 use Rattle.formula_meaning.specs.Tree.{Tree}
-use Rattle.std.proofs.Common.{⊎_elim, ap, ◌≡◌, ℕ, zero, suc, ◌<◌, ◌≤◌, arith, List, Bool, true, false, Some, None, Option, inl, inr, sym, subst, refl}
+use Rattle.std.proofs.Common.{⊎_elim, ap, ◌≡◌, ℕ, zero, suc, ◌<◌, ◌≤◌, arith, List, Bool, Some, None, Option, sym, subst, refl}
 use Rattle.std.specs.Prelude.{Result, Ok, Err, IfOk, OnOk, IfErr, OnErr}
 use Rattle.statement_syntax.specs.Statements.{CommandTree, ActionTree, Empty, Ignored, Finish, Choose, Say, Assign, Assume, Retract, StatementTree, Echo}
 use Rattle.statement_syntax.specs.declared.statement.Statement as written
@@ -17,7 +17,8 @@ use Rattle.session_meaning.specs.declared.line.Line.{Line}
 use Rattle.session_meaning.specs.State.{State, with_names, with_answers}
 use Rattle.session_meaning.specs.Inside.{inner_use, inner_meaning, Stops, SomeStops}
 use Rattle.point_queries.specs.FromCommandTools.{use_of, Refuses, IsStopped, IsFormulaAnswer, IsQueryAnswer, BindsFormula}
-use Rattle.session_meaning.specs.Meaning.{Answer, OfFormula, OfText, meaning, assumption_meaning, numbered, Meaning, MayGive}
+use Rattle.session_meaning.specs.Meaning.{Answer, OfFormula, OfText, meaning, assumption_meaning, Meaning, MayGive}
+use Rattle.session_meaning.specs.Numbered.{numbered}
 use Rattle.session_meaning.specs.FormulaGiven.{GivesFormula}
 use Rattle.session_meaning.specs.Uses.{Use, formula_line}
 use Rattle.session_meaning.specs.Causes.{IsFirst}

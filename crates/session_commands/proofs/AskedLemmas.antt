@@ -1,10 +1,9 @@
 -- What the code's statements ask for, where they can be written.
-use Rattle.std.proofs.Common.{◌≡◌, ℕ, List, Option, Some, None, refl, sym, ap, ◌∙◌, subst}
+use Rattle.std.proofs.Common.{◌≡◌, ℕ, Option, Some, None, refl, ap, ◌∙◌, subst}
 use Rattle.qe_syntax.specs.declared.tree.Formula.{Formula}
 use Rattle.qe_syntax.specs.declared.tree.Formulas.{Formulas}
 use Rattle.qe_syntax.specs.CodeTrees.{term_tree, whole_formula, whole_formulas, formula_trees, named_tree, named_trees, inner_of, inners_of}
-use Rattle.qe_syntax.specs.Holes.{Nests, alone, beside, together, command_count}
-use Rattle.qe_syntax.specs.Trees.{FormulaTree, FormulaTrees}
+use Rattle.qe_syntax.specs.Holes.{Nests, alone, together, command_count}
 use Rattle.qe_syntax.specs.Writable.{AreWritableFormulas}
 use Rattle.statement_syntax.specs.declared.statement.Command as code
 use Rattle.statement_syntax.specs.declared.statement.Command.TheVariants as command
@@ -14,7 +13,7 @@ use Rattle.statement_syntax.specs.CodeTrees.{whole_command, whole_action, action
 use Rattle.statement_syntax.specs.ConstraintLists.{AreConstraints, AreWeakConstraints}
 use Rattle.statement_syntax.specs.Statements.{Simpl, Qe, Qea, Certify, Check, Least, Say, Assign, Assume}
 use Rattle.statement_syntax.specs.Writable.{IsFormulaBeside, IsCommandOver}
-use Rattle.statement_syntax.proofs.PlainAssumptions.{plain_all_named, all_same_named}
+use Rattle.qe_syntax.proofs.Alone.{no_answers, all_same_named}
 use Rattle.inner_commands.proofs.Gathering.{together_alone}
 use Rattle.session_commands.specs.Asking.{asked_command, asked_action, formula_asked, formula_in, CanAskOf, CanActOf, IsWritten}
 use Rattle.session_commands.specs.Inner.{IsWrittenFormula}
@@ -29,7 +28,7 @@ inside_asked (Some f) = inner_of f
 module _ (fs : Formulas) (k : ℕ) (w : AreWritableFormulas ((whole_formulas fs).named k)) where
   no_inner : (whole_formulas fs).inner ≡ alone
   unfolding named_trees inners_of
-  no_inner = plain_all_named fs k w
+  no_inner = no_answers fs k w
 
   pub same_trees : (whole_formulas fs).named k ≡ formula_trees fs
   unfolding named_trees

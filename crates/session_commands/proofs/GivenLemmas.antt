@@ -25,7 +25,8 @@ use Rattle.redlog_printer.specs.Text.{tree_text}
 use Rattle.point_queries.specs.FromCommandTools.{use_of, Refuses, state_with, IsFormulaAnswer, forms_refusal, IsLongText, LineFault, static_refusal}
 use Rattle.session_commands.specs.Steps.{given_trees, form_of, command_of, HasUnwantedQuantifier, IsReady, IsUnready, MayBind, TargetFault, HasFewBytes, IsForSize, IsUnfit, IsUnspared, MayAsk}
 use Rattle.point_queries.specs.FromProblemReading.{AreNumbered, AreReadable, HasNoEarlier, AreUnread}
-use Rattle.session_meaning.specs.Meaning.{meaning, numbered, Meaning, Determines, IsAllowed, MayGive}
+use Rattle.session_meaning.specs.Meaning.{meaning, Meaning, Determines, IsAllowed, MayGive}
+use Rattle.session_meaning.specs.Numbered.{numbered}
 use Rattle.formula_resolving.specs.declared.error.StaticError.{StaticError}
 use Rattle.formula_resolving.specs.declared.error.StaticError.TheVariants as static
 use Rattle.session_meaning.specs.Uses.{IsDirectUse, Use, HasManyNodes, formula_line}

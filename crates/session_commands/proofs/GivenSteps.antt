@@ -44,10 +44,11 @@ use Rattle.session_meaning.specs.State.{State, with_names, known}
 use Rattle.point_queries.specs.FromCommandTools.{use_of, Refuses, state_with, IsFormulaAnswer, forms_refusal}
 use Rattle.session_commands.specs.Steps.{given_trees, form_of, command_of, HasUnwantedQuantifier, IsReady, IsUnready, IsWantedOf, MayBind, TargetFault, IsLineOf, GiveFault, HasFewBytes, MayAsk, AttemptRefuses, KeepsWhereEliminated, bound_after}
 use Rattle.point_queries.specs.FromProblemReading.{AreNumbered}
-use Rattle.session_meaning.specs.Meaning.{meaning, numbered}
+use Rattle.session_meaning.specs.Meaning.{meaning}
+use Rattle.session_meaning.specs.Numbered.{numbered}
 use Rattle.session_meaning.specs.Assumptions.{assumed}
 use Rattle.point_queries.specs.FromSharedForms.{FormsError, Form, Premised, IsPremised, IsDistributed, IsFormOf, IsFormed, HasFormNames, FormFault}
-use Rattle.point_queries.proofs.FromSessionState.{bind_trees, bind_ids, bind_distinct, bound_there, state_parts, grown_state, grown_session, keeps_then, sound_with, length_grows, AllVariables, both, variables_of_formula, variables_of_all, all_put_in}
+use Rattle.point_queries.proofs.FromSessionState.{bind_trees, bind_ids, bind_distinct, bound_there, state_parts, grown_state, grown_session, keeps_then, sound_with, length_grows, AllVariables, both, variables_of_all, all_put_in}
 use Rattle.session_commands.proofs.NewNameLemmas.{form_names, answer_names_distinct, answer_names_variables}
 use Rattle.point_queries.proofs.PointLemmas.{resolved_free}
 use Rattle.point_queries.proofs.FromProblemReading.{assumed_normal, numbers_of, readable_formula}

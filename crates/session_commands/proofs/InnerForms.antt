@@ -1,22 +1,18 @@
 -- What commands inside others ask for, and how they are answered.
-use Rattle.std.proofs.Common.{◌≡◌, ◌≢◌, inl, inr, ℕ, ◌≤◌, List, Bool, true, false, None, Option, length, map, refl, sym, ap, ap₂, ◌∙◌, subst, arith}
-use Rattle.formula_meaning.specs.Every.{Every}
+use Rattle.std.proofs.Common.{◌≡◌, ℕ, ◌≤◌, List, length, refl, sym, ap, ◌∙◌, subst, arith}
 use Rattle.formula_meaning.specs.Formula.{none, also}
-use Rattle.formula_meaning.specs.Numbers.{IsAtomInLimit}
-use Rattle.formula_store.specs.declared.id.FormulaId.{FormulaId}
-use Rattle.formula_store.specs.Nodes.{tree, IsId}
 use Rattle.qe_syntax.specs.declared.tree.Formula.{Formula}
 use Rattle.qe_syntax.specs.declared.tree.Formulas.{Formulas}
-use Rattle.qe_syntax.specs.Holes.{Nnf, Pnf, Dnf, Cnf, Simpl, Qe, InnerTree, Nest, Nests, nest, alone, together, command_count, nested, nested_under}
+use Rattle.qe_syntax.specs.Holes.{Nnf, Pnf, Dnf, Cnf, Simpl, Qe, InnerTree, Nest, Nests, nest, together, command_count, nested, nested_under}
 use Rattle.qe_syntax.specs.CodeTrees.{whole_formula, whole_formulas, formula_trees, named_tree, inner_of}
 use Rattle.qe_syntax.specs.Trees.{FormulaTree, FormulaTrees}
 use Rattle.qe_syntax.specs.Writable.{AreWritableFormulas}
 use Rattle.statement_syntax.specs.LastTokens.{inside_count}
 use Rattle.statement_syntax.specs.Statements.{Simpl as Simplify, Qe as Eliminate}
 use Rattle.statement_syntax.specs.Writable.{IsFormulaBeside}
-use Rattle.session_meaning.specs.Meaning.{Meaning, meaning}
+use Rattle.session_meaning.specs.Meaning.{meaning}
 use Rattle.point_queries.specs.FromProblemReading.{AreNumbered}
-use Rattle.point_queries.specs.FromSessionState.{SessionState, HasAnswers, IsScripted, answered_tree}
+use Rattle.point_queries.specs.FromSessionState.{SessionState, HasAnswers, answered_tree}
 use Rattle.point_queries.proofs.FromSessionState.{scripted_beside}
 use Rattle.point_queries.specs.FromSharedForms.clause_form_variants as clause_form
 use Rattle.session_commands.specs.declared.formulas.FormCommand.{FormCommand}

@@ -1,39 +1,36 @@
 -- The steps by which commands inside a statement are answered.
-use Rattle.std.specs.Prelude.{Result, Ok, Err, IfOk, IfErr, OnOk, OnErr}
-use Rattle.std.proofs.Common.{◌≡◌, ◌≢◌, inl, inr, ℕ, ◌≤◌, ◌<◌, ◌+◌, ◌-◌, List, [], ◌∷◌, ◌++◌, false, None, Option, length, map, take, drop, append-nil, Bool, refl, sym, ap, ap₂, ◌∙◌, subst, arith}
-use Rattle.std.proofs.lemmas.List.{length-map, length-append, map-append}
+use Rattle.std.specs.Prelude.{Result, Ok, Err, IfOk, IfErr, OnOk}
+use Rattle.std.proofs.Common.{◌≡◌, ◌≢◌, inl, inr, ℕ, ◌+◌, List, [], ◌∷◌, ◌++◌, false, None, Option, length, map, append-nil, Bool, sym, ap, ◌∙◌, subst}
+use Rattle.std.proofs.lemmas.List.{length-map, map-append}
 use Rattle.std.specs.List.{AllByRecursion}
 use Rattle.std.specs.declared.alloc.Global.{Global}
 use Rattle.std.specs.declared.vec.Vec.{Vec}
 use Rattle.formula_meaning.specs.Every.{Every}
 use Rattle.formula_meaning.specs.Numbers.{IsAtomInLimit}
 use Rattle.formula_meaning.specs.Some.{EachOf}
-use Rattle.formula_meaning.specs.Tree.{Tree}
 use Rattle.formula_meaning.specs.Formula.{none, also}
-use Rattle.formula_tree.specs.Makers.{Keeps}
 use Rattle.formula_resolving.specs.Numbering.{Grows}
-use Rattle.formula_resolving.proofs.PartLaws.{trees_stay, all_stay}
+use Rattle.formula_resolving.proofs.PartLaws.{trees_stay}
 use Rattle.formula_store.specs.declared.id.FormulaId.{FormulaId}
 use Rattle.formula_store.specs.Nodes.{tree, IsId}
 use Rattle.qe_syntax.specs.declared.tree.Formula.{Formula}
-use Rattle.qe_syntax.specs.Holes.{Nest, Nests, nest}
+use Rattle.qe_syntax.specs.Holes.{Nest, nest}
 use Rattle.qe_syntax.specs.Trees.{FormulaTree, FormulaTrees}
 use Rattle.qe_syntax.specs.Valued.{IsIn}
-use Rattle.resolved_formulas.specs.Resolving.{formula_variables, all_variables}
+use Rattle.resolved_formulas.specs.Resolving.{formula_variables}
 use Rattle.resolved_formulas.proofs.PlaceLaws.{after_has, in_either}
 use Rattle.statement_syntax.specs.LastTokens.{inside_count}
 use Rattle.statement_syntax.specs.Texts.{formulas_in}
 use Rattle.session_meaning.specs.declared.line.StatementError.{StatementError}
 use Rattle.session_meaning.specs.declared.line.StatementError.TheVariants as error
-use Rattle.session_meaning.specs.State.{State, with_names, with_answers}
-use Rattle.session_meaning.specs.Meaning.{meaning}
+use Rattle.session_meaning.specs.State.{State, with_answers}
 use Rattle.session_meaning.specs.Causes.{IsFirst}
 use Rattle.session_meaning.specs.Inside.{inner_use, IsInnerAnswer}
 use Rattle.point_queries.specs.FromCommandTools.{use_of, Refuses}
 use Rattle.point_queries.specs.FromProblemReading.{AreNumbered}
 use Rattle.point_queries.specs.FromSharedForms.way_variants as way
-use Rattle.point_queries.specs.FromSessionState.{SessionState, state_of, IsSessionFormula, IsSound, IsSessionState, GrowsState, IsScripted, HasIds, answered_tree}
-use Rattle.point_queries.proofs.FromSessionState.{state_parts, grown_state, length_grows, sound_with}
+use Rattle.point_queries.specs.FromSessionState.{SessionState, state_of, IsSessionFormula, IsSound, IsSessionState, GrowsState, IsScripted, answered_tree}
+use Rattle.point_queries.proofs.FromSessionState.{grown_state, length_grows, sound_with}
 use Rattle.point_queries.proofs.FromProblemReading.{numbered_in}
 use Rattle.session_commands.specs.declared.formulas.FormCommand.{FormCommand}
 use Rattle.session_commands.specs.declared.formulas.FormCommand.TheVariants as wanted

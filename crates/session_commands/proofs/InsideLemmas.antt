@@ -1,20 +1,19 @@
 -- The commands inside an action: the variables of the whole text have their numbers, and they are answered.
-use Rattle.std.proofs.Common.{◌≡◌, ◌≢◌, ◌⊎◌, ⊎_elim, inl, inr, ℕ, ◌≤◌, ◌<◌, ◌+◌, List, [], ◌∷◌, ◌++◌, Option, Some, None, length, map, refl, sym, ap, ◌∙◌, subst, arith}
+use Rattle.std.proofs.Common.{◌≡◌, ◌≢◌, ◌⊎◌, ⊎_elim, inl, inr, ℕ, ◌+◌, List, [], ◌∷◌, ◌++◌, Some, length, map, refl, sym, ap, ◌∙◌, subst, arith}
 use Rattle.std.proofs.lemmas.List.{length-map}
 use Rattle.std.specs.List.{AllByRecursion, fold, IsDistinct}
 use Rattle.std.specs.declared.alloc.Global.{Global}
 use Rattle.std.specs.declared.vec.Vec.{Vec}
-use Rattle.formula_meaning.specs.Tree.{Tree}
-use Rattle.formula_meaning.specs.Formula.{none, also}
+use Rattle.formula_meaning.specs.Formula.{none}
 use Rattle.formula_tree.specs.Names.{with_name}
 use Rattle.formula_resolving.specs.Numbering.{Grows}
 use Rattle.formula_resolving.proofs.Numbered.{grows_then}
 use Rattle.formula_store.specs.declared.id.FormulaId.{FormulaId}
-use Rattle.formula_store.specs.Nodes.{tree, IsId}
+use Rattle.formula_store.specs.Nodes.{tree}
 use Rattle.qe_syntax.specs.declared.tree.Formula.{Formula}
-use Rattle.qe_syntax.specs.Holes.{Nest, Nests, nest, alone, beside, command_count}
+use Rattle.qe_syntax.specs.Holes.{Nest, Nests, nest, alone, command_count}
 use Rattle.qe_syntax.specs.CodeTrees.{inner_of}
-use Rattle.qe_syntax.specs.Trees.{FormulaTree, FormulaTrees}
+use Rattle.qe_syntax.specs.Trees.{FormulaTrees}
 use Rattle.qe_syntax.specs.Value.{same_name}
 use Rattle.qe_syntax.specs.Valued.{IsIn}
 use Rattle.statement_syntax.specs.declared.statement.Command as code
@@ -22,9 +21,9 @@ use Rattle.statement_syntax.specs.declared.statement.Command.TheVariants as comm
 use Rattle.statement_syntax.specs.declared.statement.Action as acts
 use Rattle.statement_syntax.specs.declared.statement.Action.TheVariants as action
 use Rattle.statement_syntax.specs.CodeTrees.{whole_action}
-use Rattle.statement_syntax.specs.LastTokens.{in_order, all_in_order}
+use Rattle.statement_syntax.specs.LastTokens.{all_in_order}
 use Rattle.statement_syntax.specs.Texts.{formulas_in, written_out}
-use Rattle.statement_syntax.specs.Writable.{AreWritableNests, IsInnerOver, IsFormulaBeside}
+use Rattle.statement_syntax.specs.Writable.{AreWritableNests}
 use Rattle.resolved_formulas.specs.Resolving.{all_variables}
 use Rattle.resolved_formulas.proofs.PlaceLaws.{after_distinct, after_has, in_either}
 use Rattle.inner_commands.specs.declared.order.Step.{Step}
@@ -36,11 +35,10 @@ use Rattle.session_meaning.specs.declared.line.StatementError.{StatementError}
 use Rattle.session_meaning.specs.declared.line.StatementError.TheVariants as error
 use Rattle.session_meaning.specs.State.{State, with_names, with_answers}
 use Rattle.session_meaning.specs.Inside.{GivesAll, SomeStops}
-use Rattle.session_meaning.specs.Meaning.{Meaning, meaning, text_variables}
+use Rattle.session_meaning.specs.Meaning.{meaning, text_variables}
 use Rattle.session_meaning.specs.Reply.{statement_variables, with_variables}
-use Rattle.point_queries.specs.FromProblemReading.{AreNumbered}
 use Rattle.point_queries.specs.FromSessionState.{SessionState, state_of, IsSessionState, GrowsState, HasAnswers, answered_tree}
-use Rattle.point_queries.proofs.FromSessionState.{AllVariables, all_put_in, state_parts, grown_state, grown_session, keeps_itself, scripted_beside, kept_names}
+use Rattle.point_queries.proofs.FromSessionState.{AllVariables, all_put_in, grown_state, grown_session, keeps_itself, scripted_beside, kept_names}
 use Rattle.point_queries.proofs.FromProblemReading.{numbered_in}
 use Rattle.session_commands.specs.Asking.{asked_command, asked_action, formula_asked, formula_in, command_in, CanAskOf, CanActOf, CanAct, IsWritten}
 use Rattle.session_commands.specs.Inner.{IsOwn, IsNumberedNest, AreAnswered, AreStopped, IsWrittenFormula}
@@ -92,19 +90,6 @@ module _ (a : acts.Action) (w : IsWritten a) where
           given = subst (λ ns. GivesAll ns (with_variables ns (asked_action a) (state_of d)) limit (state_of d).answers there.names) (sym (inner_is ∙ plain)) (none, refl);
           is = refl;
         }
-
--- no commands are in order where there are none
-empty_order : (ns : Nests) → all_in_order ns ≡ [] → ns ≡ alone
-empty_order alone e = refl
-empty_order (beside (nest c ms) ns) e = absurd (not_empty (all_in_order ms) (nest c ms) (all_in_order ns) e)
-  where
-    not_empty : (xs : List Nest) (x : Nest) (ys : List Nest) → ¬ ((xs ++ x ∷ []) ++ ys ≡ [])
-    not_empty [] x ys p = cc
-    not_empty (z ∷ xs) x ys p = cc
-
-pub no_steps : (steps : List Step) (f : Formula) → map nest_of steps ≡ all_in_order (inner_of f) → length steps ≡ 0 → inner_of f ≡ alone
-no_steps [] f e l = empty_order (inner_of f) (sym e)
-no_steps (s ∷ steps) f e l = absurd (omega (arith, l))
 
 -- ---- some inside
 

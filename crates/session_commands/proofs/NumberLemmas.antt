@@ -1,5 +1,5 @@
 -- The variables of a command's text are those of its formula's text, and then those behind it.
-use Rattle.std.proofs.Common.{◌≡◌, ◌⊎◌, inl, inr, ℕ, List, [], ◌++◌, Option, Some, None, append-nil, refl, sym, ap, ◌∙◌, subst}
+use Rattle.std.proofs.Common.{◌≡◌, ◌⊎◌, inl, inr, ℕ, List, [], ◌++◌, Some, append-nil, refl, sym, ap, ◌∙◌, subst}
 use Rattle.std.proofs.lemmas.List.Sums.{fold-append}
 use Rattle.std.specs.List.{fold}
 use Rattle.formula_meaning.specs.Formula.{none, also}
@@ -8,7 +8,6 @@ use Rattle.qe_syntax.specs.declared.tree.Formula.{Formula}
 use Rattle.qe_syntax.specs.declared.tree.Formulas.{Formulas}
 use Rattle.qe_syntax.specs.declared.entries.PointEntry.{PointEntry}
 use Rattle.qe_syntax.specs.CodeTrees.{inner_of, formula_trees}
-use Rattle.qe_syntax.specs.Trees.{FormulaTrees}
 use Rattle.qe_syntax.specs.Writable.{AreWritableFormulas}
 use Rattle.statement_syntax.specs.declared.statement.Command as code
 use Rattle.statement_syntax.specs.declared.statement.Command.TheVariants as command

@@ -19,7 +19,8 @@ use Rattle.session_meaning.specs.declared.line.StatementError.TheVariants as err
 use Rattle.session_meaning.specs.State.{State, with_standing}
 use Rattle.session_meaning.specs.Assumptions.{resolved_all}
 use Rattle.session_meaning.specs.Standing.{is_among, behind, with_assumption, grown, standing_text}
-use Rattle.session_meaning.specs.Meaning.{Meaning, assumption_meaning, numbered}
+use Rattle.session_meaning.specs.Meaning.{Meaning, assumption_meaning}
+use Rattle.session_meaning.specs.Numbered.{numbered}
 use Rattle.session_meaning.specs.Causes.{IsCause, IsAccepted, HasNone}
 use Rattle.session_meaning.specs.Reply.{IsLine, AnswersAssumptions}
 use Rattle.session_meaning.specs.Uses.{Use}

@@ -1,5 +1,5 @@
 -- The variables of a text with commands inside it are ones that a script can write.
-use Rattle.std.proofs.Common.{ℕ, suc, List, [], ◌∷◌, ◌++◌, map, Bool, true, false, Option, Some, None, ◌≡◌, refl, sym, subst}
+use Rattle.std.proofs.Common.{ℕ, suc, List, [], ◌∷◌, ◌++◌, map, Bool, true, false, Some, ◌≡◌, subst}
 use Rattle.std.specs.Prelude.{if◌then◌else◌}
 use Rattle.std.specs.List.{AllByRecursion}
 use Rattle.formula_meaning.specs.Formula.{Yes, No, One, Not, And, Or, Impl, Repl, Equiv, Ex, All, none, also}
@@ -13,7 +13,8 @@ use Rattle.qe_syntax.specs.CodeTrees.{inner_of, formula_trees}
 use Rattle.statement_syntax.specs.declared.statement.Command as code
 use Rattle.statement_syntax.specs.declared.statement.Command.TheVariants as command
 use Rattle.statement_syntax.specs.declared.grid.GridAxis.{GridAxis}
-use Rattle.statement_syntax.specs.Texts.{text_at, with_texts, all_with_texts, formulas_in, text_of, texts_of, written_out}
+use Rattle.statement_syntax.specs.Texts.{text_at, all_with_texts, formulas_in, text_of, texts_of, written_out}
+use Rattle.inner_commands.specs.Text.{with_texts}
 use Rattle.statement_syntax.specs.Writable.{IsFormulaBeside, IsInnerOver, IsWritableNest, AreWritableNests, AreWritableAxes}
 use Rattle.qe_syntax.specs.Writable.{AreWritableFormulas, AreWritableEntries}
 use Rattle.resolved_formulas.specs.Resolving.{formula_variables, all_variables}

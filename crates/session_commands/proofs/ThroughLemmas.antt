@@ -1,6 +1,6 @@
 -- A statement, by way of the commands inside it.
-use Rattle.std.specs.Prelude.{Result, Ok, Err, IfOk, IfErr, OnOk, OnErr}
-use Rattle.std.proofs.Common.{◌≡◌, ◌≢◌, inl, inr, ℕ, List, [], map, length, take, refl, sym, ap, ◌∙◌, subst}
+use Rattle.std.specs.Prelude.{Result, Ok, Err, IfOk, IfErr}
+use Rattle.std.proofs.Common.{◌≡◌, inl, inr, ℕ, List, [], map, length, take, sym, ap, ◌∙◌, subst}
 use Rattle.std.specs.declared.alloc.Global.{Global}
 use Rattle.std.specs.declared.vec.Vec.{Vec}
 use Rattle.formula_resolving.proofs.Numbered.{grows_then}
@@ -8,10 +8,10 @@ use Rattle.formula_store.specs.declared.id.FormulaId.{FormulaId}
 use Rattle.formula_store.specs.Nodes.{tree}
 use Rattle.qe_syntax.specs.Holes.{alone}
 use Rattle.statement_syntax.specs.declared.statement.Statement.{Statement}
-use Rattle.statement_syntax.specs.CodeTrees.{whole_action, action_tree, statement_tree}
+use Rattle.statement_syntax.specs.CodeTrees.{whole_action, statement_tree}
 use Rattle.session_meaning.specs.declared.line.Line.{Line}
 use Rattle.session_meaning.specs.declared.line.StatementError.{StatementError}
-use Rattle.session_meaning.specs.State.{State, with_names, with_answers}
+use Rattle.session_meaning.specs.State.{State, with_answers}
 use Rattle.session_meaning.specs.Inside.{GivesAll, SomeStops}
 use Rattle.session_meaning.specs.Reply.{with_variables, IsReached, Answers, RefusesAction}
 use Rattle.point_queries.specs.FromBlockScheduler.{Limits}
@@ -23,7 +23,7 @@ use Rattle.session_commands.specs.Seen.{state_in}
 use Rattle.session_commands.specs.Inner.{AreAnswered, AreStopped}
 use Rattle.session_commands.specs.Through.{IsAnsweredThrough, IsStatementAnswer, IsStatementStopped, LeavesState}
 use Rattle.session_commands.proofs.AskedLemmas.{IsActedAs, acted_as}
-use Rattle.session_commands.proofs.InnerSteps.{answering, settled_session}
+use Rattle.session_commands.proofs.InnerSteps.{answering}
 
 -- ---- what is answered, and what is refused
 

@@ -10,12 +10,23 @@ use Rattle.session_meaning.specs.declared.line.StatementError.TheVariants as err
 use Rattle.session_meaning.specs.State.{State}
 use Rattle.session_meaning.specs.Standing.{with_assumption}
 use Rattle.session_meaning.specs.Meaning.{assumption_meaning}
+use Rattle.session_meaning.specs.Numbered.{numbered}
+use Rattle.session_meaning.specs.Reply.{AnswersAssumptions}
+use Rattle.session_meaning.specs.declared.line.Line.{Line}
 use Rattle.session_meaning.specs.Causes.{IsFirst}
 use Rattle.point_queries.specs.FromCommandTools.{use_of}
 
 -- The assumptions are refused with the word under any limit of nodes, in a state in which their variables have their numbers; of want of memory nothing is said.
 abbrev pub RefusesAssumptions : FormulaTrees → State → Bool → StatementError → Type 0
 RefusesAssumptions given s printed e = e ≢ error.Memory → (limit : ℕ) → IsFirst (assumption_meaning given) s limit (use_of None printed) e
+
+-- the same of a state in which their variables may have no numbers: they get them first
+abbrev pub RefusesAssumed : FormulaTrees → State → Bool → StatementError → Type 0
+RefusesAssumed given s printed e = RefusesAssumptions given (numbered (assumption_meaning given) s) printed e
+
+-- the assumptions are accepted under any limit of nodes, with this line and this next state; their variables get their numbers first
+abbrev pub AnswersAssumed : FormulaTrees → State → Bool → Line → State → Type 0
+AnswersAssumed given s printed answer next = (limit : ℕ) → AnswersAssumptions given (numbered (assumption_meaning given) s) limit printed answer next
 
 -- the standing assumptions with these formulas behind them
 abbrev pub grown_by : SessionState → List Tree → List Tree

@@ -20,7 +20,7 @@ use Rattle.point_queries.specs.FromSharedForms.clause_form_variants as clause_fo
 use Rattle.point_queries.specs.FromSharedForms.way_variants as way
 use Rattle.session_meaning.specs.State.{State, known}
 use Rattle.session_meaning.specs.Assumptions.{assumed}
-use Rattle.point_queries.specs.FromCommandTools.{Refuses, IsLongText, LineFault}
+use Rattle.point_queries.specs.FromCommandTools.{use_of, Refuses, IsLongText, LineFault}
 use Rattle.session_meaning.specs.Meaning.{meaning}
 use Rattle.session_meaning.specs.Uses.{Use, formula_line}
 use Rattle.session_meaning.specs.Causes.{HasNoRoom, IsTooLarge}
@@ -170,6 +170,10 @@ MayAsk s limit u (wanted.Distributed clauses) f = Unit {0}
 MayAsk s limit u (wanted.Simplified given) f = Unit {0}
 MayAsk s limit u (wanted.Eliminated way.ByCases given) f = Unit {0}
 MayAsk s limit u (wanted.Eliminated way.ByReference given) f = IsUnspared s limit u (wanted.Eliminated way.ByReference given) f
+
+-- the command is refused, whatever is done with what it gives, where it may be asked
+abbrev pub RefusesAsked : State → ℕ → FormCommand → FormulaTree → StatementError → Type 0
+RefusesAsked s limit w f e = (target : Option (List ℕ)) (printed : Bool) → MayAsk s limit (use_of target printed) w f → Refuses s limit (use_of target printed) (command_of w f) e
 
 -- Why an attempt fails: a condition by cases is unfit, and then the command is not spared; or else the command is refused.
 abbrev pub AttemptRefuses : State → ℕ → Use → FormCommand → FormulaTree → StatementError → Type 0

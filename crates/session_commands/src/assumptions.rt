@@ -1,15 +1,14 @@
 //! Standing assumptions: they are put behind the others, or all taken back.
 
-ghost use Rattle.std.specs.Prelude.{◌≡◌, ◌++◌, ℕ, [], IfOk, IfErr, OnOk, OnErr, length, map};
+ghost use Rattle.std.specs.Prelude.{◌≡◌, ℕ, [], IfOk, IfErr, OnOk, OnErr, length, map};
 ghost use Rattle.std.specs.List.{AllByRecursion, fold};
 ghost use Rattle.formula_meaning.specs.Some.{EachOf};
 ghost use Rattle.formula_meaning.specs.Within.{IsTreeWithin};
 ghost use Rattle.formula_store.specs.Nodes.{tree, IsId};
-ghost use Rattle.formula_resolving.specs.BoundIds.{AreIds};
 ghost use Rattle.qe_syntax.specs.Writable.{AreWritableFormulas};
 ghost use Rattle.qe_syntax.specs.Trees.{formulas_of};
 ghost use Rattle.qe_syntax.specs.CodeTrees.{formula_tree};
-ghost use Rattle.session_meaning.specs.Meaning.{assumption_meaning, numbered};
+ghost use Rattle.session_meaning.specs.Numbered.{numbered};
 ghost use Rattle.session_meaning.specs.Reply.{IsLine, AnswersAssumptions};
 ghost use Rattle.session_meaning.specs.Standing.{with_assumption, standing_text};
 ghost use Rattle.session_meaning.specs.State.{with_standing};
@@ -17,7 +16,7 @@ ghost use Rattle.point_queries.specs.FromSessionState.{state_of, IsSessionState,
 ghost use Rattle.point_queries.specs.FromStandingAssumptions.{standing_trees, IsFront};
 ghost use Rattle.point_queries.specs.FromCommandTools.{IsLongText, LineFault};
 ghost use Rattle.point_queries.specs.FromProblemReading.{AreNumbered};
-ghost use Rattle.session_commands.specs.Standing.{RefusesAssumptions, grown_by, IsGrown};
+ghost use Rattle.session_commands.specs.Standing.{RefusesAssumptions, RefusesAssumed, AnswersAssumed, grown_by, IsGrown};
 
 use formula_store::{FormulaId, Store};
 use formula_tree::Shape;
@@ -37,8 +36,8 @@ pub(crate) fn assume(
     requires proper { AreWritableFormulas (formulas_of (map formula_tree given.now)) }
     requires session { IsSessionState state.old }
     ensures session { OnOk result (IsSessionState state.new) }
-    ensures answer { IfOk result (λ line. (limit : ℕ) → AnswersAssumptions (formulas_of (map formula_tree given.now)) (numbered (assumption_meaning (formulas_of (map formula_tree given.now))) (state_of state.old)) limit printed line (state_of state.new)) }
-    ensures refused { IfErr result (RefusesAssumptions (formulas_of (map formula_tree given.now)) (numbered (assumption_meaning (formulas_of (map formula_tree given.now))) (state_of state.old)) printed) }
+    ensures answer { IfOk result (λ line. AnswersAssumed (formulas_of (map formula_tree given.now)) (state_of state.old) printed line (state_of state.new)) }
+    ensures refused { IfErr result (RefusesAssumed (formulas_of (map formula_tree given.now)) (state_of state.old) printed) }
     ensures grown { OnErr result (GrowsState state.old state.new) }
 {
     number_all(given, &state.bindings, &mut state.names)?;

@@ -1,7 +1,7 @@
 //! Commands that give a formula: it is printed, or bound to a name.
 
 ghost use Rattle.formula_meaning.specs.Formula.{also};
-ghost use Rattle.std.specs.Prelude.{◌≡◌, ◌⊎◌, ◌↔◌, ◌<◌, ◌≤◌, ◌++◌, ℕ, List, Bool, true, IsTrue, Option, Some, IfOk, IfErr, IfSome, IfNone, MatchOption, OnOk, OnErr, length, codes, map};
+ghost use Rattle.std.specs.Prelude.{◌≡◌, ◌⊎◌, ◌↔◌, ◌<◌, ◌≤◌, ◌++◌, true, IsTrue, Option, Some, IfOk, IfErr, IfSome, IfNone, MatchOption, OnOk, OnErr, length, codes, map};
 ghost use Rattle.std.specs.Bool.{MatchBool};
 ghost use Rattle.formula_tree.specs.Bindings.{bound_to, most_bound};
 ghost use Rattle.formula_store.specs.Nodes.{tree, IsId};
@@ -9,16 +9,17 @@ ghost use Rattle.formula_meaning.specs.Within.{IsTreeWithin};
 ghost use Rattle.formula_meaning.specs.Members.{HasTwoMembers};
 ghost use Rattle.redlog_printer.specs.Text.{tree_text};
 ghost use Rattle.redlog_printer.specs.Writing.{text_limit};
-ghost use Rattle.qe_syntax.specs.Writable.{IsWritableFormula, AreWritableFormulas};
+ghost use Rattle.qe_syntax.specs.Writable.{AreWritableFormulas};
 ghost use Rattle.session_commands.specs.Asking.{asked_command, formula_asked};
 ghost use Rattle.session_commands.specs.InnerForms.{IsInnerForm};
 ghost use Rattle.qe_syntax.specs.CodeTrees.{whole_command as inner_nest};
 ghost use Rattle.qe_syntax.specs.Trees.{formulas_of};
 ghost use Rattle.qe_syntax.specs.CodeTrees.{formula_tree};
-ghost use Rattle.point_queries.specs.FromCommandTools.{use_of, Refuses, IsFormulaAnswer, IsLongText, LineFault};
-ghost use Rattle.session_commands.specs.Steps.{given_trees, form_of, command_of, HasUnwantedQuantifier, IsReady, IsUnready, IsWantedOf, MayBind, TargetFault, IsLineOf, GiveFault, bound_after, IsFirstAttempt, IsByCases, IsForSize, IsUnfit, plain_of, MayAsk, AttemptRefuses, KeepsWhereEliminated, HasFewBytes};
+ghost use Rattle.point_queries.specs.FromCommandTools.{use_of, Refuses, RefusesCommand, IsFormulaAnswer, AnswersFormula, IsLongText, LineFault};
+ghost use Rattle.session_commands.specs.Steps.{given_trees, form_of, command_of, HasUnwantedQuantifier, IsReady, IsUnready, IsWantedOf, MayBind, TargetFault, IsLineOf, GiveFault, bound_after, IsFirstAttempt, IsByCases, IsForSize, IsUnfit, plain_of, RefusesAsked, AttemptRefuses, KeepsWhereEliminated, HasFewBytes};
 ghost use Rattle.point_queries.specs.FromProblemReading.{AreNumbered, AreRead};
-ghost use Rattle.session_meaning.specs.Meaning.{meaning, numbered};
+ghost use Rattle.session_meaning.specs.Meaning.{meaning};
+ghost use Rattle.session_meaning.specs.Numbered.{numbered};
 ghost use Rattle.session_meaning.specs.FormulaGiven.{GivesFormula};
 ghost use Rattle.session_meaning.specs.Uses.{formula_line};
 ghost use Rattle.formula_meaning.specs.Tree.{tree_distinct};
@@ -161,8 +162,8 @@ pub(crate) fn answer_formula<R: Threads + Sync, G: Gate + Sync>(
     requires session { IsSessionState state.old }
     requires first { IsFirstAttempt wanted }
     ensures session { OnOk result (IsSessionState state.new) }
-    ensures answer { IfOk result (λ line. IsFormulaAnswer (numbered (meaning (command_of wanted.entry (answered_tree formula.now))) (state_of state.old)) workshop.now.limits.nodes (use_of target.now printed) (command_of wanted.entry (answered_tree formula.now)) line (state_of state.new)) }
-    ensures refused { IfErr result (Refuses (numbered (meaning (command_of wanted.entry (answered_tree formula.now))) (state_of state.old)) workshop.now.limits.nodes (use_of target.now printed) (command_of wanted.entry (answered_tree formula.now))) }
+    ensures answer { IfOk result (λ line. AnswersFormula (command_of wanted.entry (answered_tree formula.now)) (state_of state.old) workshop.now.limits.nodes (use_of target.now printed) line (state_of state.new)) }
+    ensures refused { IfErr result (RefusesCommand (command_of wanted.entry (answered_tree formula.now)) (state_of state.old) workshop.now.limits.nodes (use_of target.now printed)) }
     ensures grown { OnErr result (GrowsState state.old state.new) }
 {
     let assumptions = wanted.assumptions();
@@ -263,7 +264,7 @@ pub(crate) fn wanted_formula<R: Threads + Sync, G: Gate + Sync>(
     requires numbered { AreNumbered state.old.names (also (answered_tree formula.now) (given_trees wanted)) }
     ensures made { IfOk result (IsId state.new.store) }
     ensures wanted { IfOk result (λ id. IsWantedOf (state_of state.old) workshop.now.limits.nodes wanted.entry (answered_tree formula.now) (tree state.new.store id) state.new.names) }
-    ensures refused { IfErr result (λ e. (target : Option (List ℕ)) (printed : Bool) → MayAsk (state_of state.old) workshop.now.limits.nodes (use_of target printed) wanted.entry (answered_tree formula.now) → Refuses (state_of state.old) workshop.now.limits.nodes (use_of target printed) (command_of wanted.entry (answered_tree formula.now)) e) }
+    ensures refused { IfErr result (RefusesAsked (state_of state.old) workshop.now.limits.nodes wanted.entry (answered_tree formula.now)) }
     ensures grown { GrowsState state.old state.new }
     ensures other { IfErr result (λ e. ¬ (IsForSize e)) }
     ensures kept { KeepsWhereEliminated wanted.entry state.old state.new }

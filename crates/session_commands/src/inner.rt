@@ -1,6 +1,6 @@
 //! The commands inside a statement are answered, one after the other in the order of their last tokens.
 
-ghost use Rattle.std.specs.Prelude.{◌≡◌, ◌≢◌, ◌≤◌, ◌+◌, ◌++◌, [], None, Some, IfOk, IfErr, IfSome, IfNone, OnOk, OnErr, length, map};
+ghost use Rattle.std.specs.Prelude.{◌≡◌, ◌≢◌, ◌≤◌, ◌+◌, ◌++◌, [], None, Some, IfOk, IfErr, IfSome, IfNone, OnOk, length, map};
 ghost use Rattle.std.specs.List.{AllByRecursion, fold};
 ghost use Rattle.formula_store.specs.Nodes.{tree};
 ghost use Rattle.formula_tree.specs.Names.{with_name};
@@ -9,7 +9,7 @@ ghost use Rattle.inner_commands.specs.Order.{nest_of, IsCounted, AreInOrder};
 ghost use Rattle.inner_commands.specs.Text.{text_variables as formula_text};
 ghost use Rattle.qe_syntax.specs.CodeTrees.{inner_of, whole_command as inner_nest};
 ghost use Rattle.statement_syntax.specs.LastTokens.{all_in_order, inside_count};
-ghost use Rattle.point_queries.specs.FromSessionState.{state_of, IsSessionState, GrowsState, HasAnswers};
+ghost use Rattle.point_queries.specs.FromSessionState.{state_of, IsSessionState, GrowsState};
 ghost use Rattle.session_meaning.specs.Causes.{IsFirst};
 ghost use Rattle.session_meaning.specs.Inside.{inner_use, IsInnerAnswer};
 ghost use Rattle.session_meaning.specs.Meaning.{meaning, text_variables};

@@ -1,10 +1,10 @@
 ghost use Rattle.std.specs.Prelude.{◌≡◌, ◌≤◌, [], Some, None, IfOk, IfErr, OnOk, OnErr};
 ghost use Rattle.qe_syntax.specs.Holes.{alone};
-ghost use Rattle.statement_syntax.specs.CodeTrees.{statement_tree};
 ghost use Rattle.session_commands.specs.Asking.{asked_command, asked_action, IsWritten, CanAsk, CanAct};
 ghost use Rattle.point_queries.specs.FromSessionState.{state_of, IsSessionState, GrowsState};
-ghost use Rattle.point_queries.specs.FromCommandTools.{use_of, Refuses, IsStopped, IsFormulaAnswer, BindsFormula, read_refusal};
-ghost use Rattle.session_meaning.specs.Meaning.{meaning, numbered};
+ghost use Rattle.point_queries.specs.FromCommandTools.{use_of, RefusesCommand, IsStopped, AnswersFormula, BindsFormula, read_refusal};
+ghost use Rattle.session_meaning.specs.Meaning.{meaning};
+ghost use Rattle.session_meaning.specs.Numbered.{numbered};
 ghost use Rattle.session_meaning.specs.FormulaGiven.{GivesFormula};
 ghost use Rattle.session_meaning.specs.Reply.{IsLine, AnswersSaid, Answers, with_variables, Reply};
 ghost use Rattle.session_commands.specs.Through.{IsStatementAnswer, IsStatementStopped, IsAnsweredThrough, LeavesState};
@@ -235,7 +235,7 @@ fn say<R: Threads + Sync, G: Gate + Sync>(
     requires session { IsSessionState state.old }
     ensures session { OnOk result (IsSessionState state.new) }
     ensures answer { IfOk result (λ line. AnswersSaid (meaning (asked_command command.now)) (numbered (meaning (asked_command command.now)) (state_of state.old)) workshop.now.limits.nodes printed line (state_of state.new)) }
-    ensures refusal { IfErr result (Refuses (numbered (meaning (asked_command command.now)) (state_of state.old)) workshop.now.limits.nodes (use_of None printed) (asked_command command.now)) }
+    ensures refusal { IfErr result (RefusesCommand (asked_command command.now) (state_of state.old) workshop.now.limits.nodes (use_of None printed)) }
     ensures grown { OnErr result (GrowsState state.old state.new) }
 {
     match command {
@@ -291,8 +291,8 @@ fn answer_form_command<R: Threads + Sync, G: Gate + Sync>(
     requires formula { GivesFormula (meaning (asked_command command.now)).answer }
     requires session { IsSessionState state.old }
     ensures session { OnOk result (IsSessionState state.new) }
-    ensures answer { IfOk result (λ line. IsFormulaAnswer (numbered (meaning (asked_command command.now)) (state_of state.old)) workshop.now.limits.nodes (use_of target.now printed) (asked_command command.now) line (state_of state.new)) }
-    ensures refusal { IfErr result (Refuses (numbered (meaning (asked_command command.now)) (state_of state.old)) workshop.now.limits.nodes (use_of target.now printed) (asked_command command.now)) }
+    ensures answer { IfOk result (λ line. AnswersFormula (asked_command command.now) (state_of state.old) workshop.now.limits.nodes (use_of target.now printed) line (state_of state.new)) }
+    ensures refusal { IfErr result (RefusesCommand (asked_command command.now) (state_of state.old) workshop.now.limits.nodes (use_of target.now printed)) }
     ensures grown { OnErr result (GrowsState state.old state.new) }
 {
     let Some((wanted, formula)) = form_command_of(command) else {

@@ -1,6 +1,6 @@
 -- Why a command is refused: each cause on its own, over the whole statement, and which comes first. The state is one in which the variables of the command have their
 -- numbers.
-use Rattle.std.specs.Prelude.{◌≡◌, ◌⊎◌, ℕ, ◌<◌, ◌≤◌, List, Bool, true, Option, Some, None, length}
+use Rattle.std.specs.Prelude.{◌≡◌, ◌⊎◌, ℕ, ◌<◌, ◌≤◌, List, true, Option, Some, None, length}
 use Rattle.formula_meaning.specs.Formula.{none, also}
 use Rattle.formula_meaning.specs.Some.{SomeOf, EachOf}
 use Rattle.formula_meaning.specs.Tree.{Tree, tree_distinct}

@@ -1,11 +1,11 @@
 -- Linear constraints as they are written: a point that meets them all, or multipliers by which none does.
-use Rattle.std.specs.Prelude.{◌≡◌, ◌⊎◌, ◌↔◌, ℕ, ◌<◌, ℤ, pos, negsuc, List, [], ◌∷◌, ◌++◌, Bool, true, IsTrue, codes, length, map}
+use Rattle.std.specs.Prelude.{◌≡◌, ◌⊎◌, ◌↔◌, ℕ, ◌<◌, ℤ, pos, negsuc, List, [], ◌++◌, Bool, true, IsTrue, codes, length, map}
 use Rattle.std.specs.List.{fold}
 use Rattle.exact_numbers.specs.Frac.{whole_frac}
 use Rattle.formula_meaning.specs.Atom.{Atom, Compare, Congruent, Equals, Differs, Below, AtMost, Above, AtLeast}
 use Rattle.formula_meaning.specs.Context.{Fields}
 use Rattle.formula_meaning.specs.Form.{Form, scale}
-use Rattle.formula_meaning.specs.Formula.{Yes, No, One}
+use Rattle.formula_meaning.specs.Formula.{No, One}
 use Rattle.formula_meaning.specs.Measured.{Stop, done, stopped}
 use Rattle.formula_meaning.specs.Point.{Point, Of}
 use Rattle.formula_meaning.specs.Some.{SomeOf, EachOf}
@@ -13,7 +13,7 @@ use Rattle.formula_meaning.specs.Tree.{Tree}
 use Rattle.qe_syntax.specs.declared.tree.Literal.{Literal}
 use Rattle.qe_syntax.specs.declared.tree.Literal.TheVariants.{Past}
 use Rattle.qe_syntax.specs.Trees.{FormulaTrees}
-use Rattle.qe_syntax.specs.Value.{NamedPoint, literal_number}
+use Rattle.qe_syntax.specs.Value.{literal_number}
 use Rattle.formula_tree.specs.Names.{with_name, place}
 use Rattle.resolved_formulas.specs.Resolving.{all_variables}
 use Rattle.fourier_motzkin.specs.FromSampleReference.{Value, value_names, with_values, IsValue, origin}

@@ -12,6 +12,7 @@ pub mod Certificates
 pub mod Targets
 pub mod Uses
 pub mod Meaning
+pub mod Numbered
 pub mod FormulaGiven
 pub mod Causes
 pub mod Inside

@@ -1,7 +1,6 @@
 -- What a command means: what it reads, why it may be refused, and what it answers with. `meaning`, at the end, has a line for each command, and `assumption_meaning`
 -- is that of assumptions that are to stand; the causes of a refusal and the replies are stated once, of any meaning.
 use Rattle.std.specs.Prelude.{◌≡◌, ◌⊎◌, ◌*◌, ◌<◌, ◌≤◌, ℕ, List, [], ◌∷◌, ◌++◌, Bool, Option, length, map}
-use Rattle.std.specs.List.{fold}
 use Rattle.formula_meaning.specs.declared.junction.Junction.{Junction}
 use Rattle.formula_meaning.specs.declared.junction.Junction.TheVariants.{Conjunction, Disjunction}
 use Rattle.formula_meaning.specs.Context.{Integers}
@@ -21,7 +20,7 @@ use Rattle.qe_syntax.specs.Holes.{Nests}
 use Rattle.statement_syntax.specs.Texts.{written_out}
 use Rattle.qe_syntax.specs.Trees.{FormulaTree, FormulaTrees}
 use Rattle.qe_syntax.specs.Value.{NamedPoint}
-use Rattle.formula_tree.specs.Names.{with_name, place}
+use Rattle.formula_tree.specs.Names.{place}
 use Rattle.resolved_formulas.specs.Resolving.{all_variables, resolve, at_names}
 use Rattle.clean_forms.specs.Plain.{plain_form, literals}
 use Rattle.prenex_forms.specs.Forms.{OverflowsInRenaming}
@@ -29,7 +28,7 @@ use Rattle.redlog_printer.specs.Writing.{text_limit}
 use Rattle.answer_texts.specs.Answers.{cases_text}
 use Rattle.session_meaning.specs.Words.{truth_text}
 use Rattle.session_meaning.specs.Standing.{grown, standing_text}
-use Rattle.session_meaning.specs.State.{State, with_names, known}
+use Rattle.session_meaning.specs.State.{State, known}
 use Rattle.session_meaning.specs.Uses.{Use, IsDirectUse}
 use Rattle.session_meaning.specs.FormulaAnswers.{negation_normal_of, IsPrenexAnswer, HasNewNames, IsSimplification, IsCleanAnswer, IsCondition}
 use Rattle.session_meaning.specs.Points.{MeanNoPoint, HasUnvalued, IsQuantified, TruthPasses, IsTruth}
@@ -79,17 +78,9 @@ pub record Meaning : Type 1 where
   pub names : State → List (List ℕ) → Type 0
   pub answer : Answer
 
--- the variables in the order of the text: names in terms, after quantifiers, in assumptions and in a point
-abbrev pub variables : Meaning → List (List ℕ)
-variables m = all_variables m.formulas ++ m.further
-
 -- the same of the whole text, where these commands stand inside the formulas
 abbrev pub text_variables : Nests → Meaning → List (List ℕ)
 text_variables ns m = all_variables (written_out ns m.formulas) ++ m.further
-
--- the state with the new variables after its names
-abbrev pub numbered : Meaning → State → State
-numbered m s = with_names s (fold with_name s.names (variables m))
 
 -- ---- what an answer allows
 

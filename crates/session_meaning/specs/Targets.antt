@@ -1,5 +1,5 @@
 -- The least value of a target under weak constraints as they are written, and a point that attains it.
-use Rattle.std.specs.Prelude.{◌≡◌, ◌⊎◌, ℕ, List, [], ◌∷◌, ◌++◌, codes, map, unsigned_abs, nat_eq}
+use Rattle.std.specs.Prelude.{◌≡◌, ◌⊎◌, ℕ, List, [], ◌++◌, codes, map, unsigned_abs, nat_eq}
 use Rattle.std.specs.List.{fold}
 use Rattle.exact_numbers.specs.Frac.{Frac, SameValue}
 use Rattle.formula_meaning.specs.Context.{Fields}

@@ -1,5 +1,5 @@
 -- What names stand for in a sound state: answers, and what is bound.
-use Rattle.std.proofs.Common.{◌≡◌, ℕ, suc, List, [], ◌∷◌, ◌++◌, Bool, true, false, Option, Some, cond, sym, subst, length}
+use Rattle.std.proofs.Common.{◌≡◌, ℕ, suc, List, [], ◌∷◌, ◌++◌, Bool, true, false, Some, cond, subst, length}
 use Rattle.formula_meaning.specs.Every.{Every}
 use Rattle.formula_meaning.specs.Numbers.{IsAtomInLimit}
 use Rattle.formula_meaning.specs.Some.{EachOf}

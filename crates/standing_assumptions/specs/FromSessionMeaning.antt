@@ -5,7 +5,8 @@ pub use Rattle.session_meaning.specs.Causes.{HasLongLine, HasNoRoom, HasNone, Is
 pub use Rattle.session_meaning.specs.Certificates.{AreInfeasible, Certifies, CheckPasses, HasLongCertificate, IsCertificateAnswer, IsCheckAnswer, SearchStops, Searches, atom_constraint, certificate_text, constrained_names, constraints_of, multipliers_of, tree_constraint}
 pub use Rattle.session_meaning.specs.FormulaAnswers.{HasNewNames}
 pub use Rattle.session_meaning.specs.FormulaGiven.{GivesFormula}
-pub use Rattle.session_meaning.specs.Meaning.{MayGive, Meaning, OwnCauses, meaning, no_causes, numbered, of_constraints, stops}
+pub use Rattle.session_meaning.specs.Meaning.{MayGive, Meaning, OwnCauses, meaning, no_causes, of_constraints, stops}
+pub use Rattle.session_meaning.specs.Numbered.{numbered}
 pub use Rattle.session_meaning.specs.Places.{by_names}
 pub use Rattle.session_meaning.specs.Reply.{IsLine, RefusesAction, Tells}
 pub use Rattle.session_meaning.specs.Samples.{sample_text}

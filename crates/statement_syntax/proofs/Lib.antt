@@ -1,4 +1,1 @@
-pub mod InnerCommands
-pub mod Plain
 pub mod Constrained
-pub mod PlainAssumptions

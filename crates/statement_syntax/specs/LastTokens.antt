@@ -1,6 +1,6 @@
 -- Commands inside formulas in the order of their last tokens.
 use Rattle.std.specs.Prelude.{ℕ, List, [], ◌∷◌, ◌++◌}
-use Rattle.qe_syntax.specs.Holes.{InnerTree, Nest, Nests, nest, alone, beside, command_count}
+use Rattle.qe_syntax.specs.Holes.{Nest, Nests, nest, alone, beside, command_count}
 
 abbrev mutual
   -- a command after those inside it

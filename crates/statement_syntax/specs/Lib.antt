@@ -5,6 +5,5 @@ pub mod LastTokens
 pub mod CodeTrees
 pub mod Constraints
 pub mod ConstraintLists
-pub mod PlainStatements
 pub mod QuantifiedNames
 pub mod Writable

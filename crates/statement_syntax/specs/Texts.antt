@@ -1,7 +1,7 @@
 -- The text of formulas inside which commands stand: what a command says, in the place of its answer. It is looked at for its variables alone.
 use Rattle.std.specs.Prelude.{ℕ, suc, List, [], ◌∷◌, if◌then◌else◌}
 use Rattle.formula_meaning.specs.Formula.{One, And, none, also}
-use Rattle.formula_meaning.specs.Replaced.{replaced, all_replaced}
+use Rattle.formula_meaning.specs.Replaced.{all_replaced}
 use Rattle.qe_syntax.specs.Trees.{WrittenAtom, Compare, Cong, Ncong, Bound, FormulaTree, FormulaTrees}
 use Rattle.qe_syntax.specs.Value.{same_name}
 use Rattle.qe_syntax.specs.Holes.{InnerTree, Nnf, Pnf, Dnf, Cnf, Simpl, Qe, Nest, Nests, nest, alone, beside, inner_name}
@@ -17,10 +17,6 @@ text_of_atom texts (Compare rel s t) = One (Compare rel s t)
 text_of_atom texts (Cong s t m) = One (Cong s t m)
 text_of_atom texts (Ncong s t m) = One (Ncong s t m)
 text_of_atom texts (Bound x) = text_at 0 texts x
-
--- a formula with these texts in the places of the answers
-abbrev pub with_texts : List FormulaTree → FormulaTree → FormulaTree
-with_texts texts f = replaced (text_of_atom texts) (λ x. x) f
 
 -- formulas with these texts in the places of the answers
 abbrev pub all_with_texts : List FormulaTree → FormulaTrees → FormulaTrees

@@ -1,5 +1,5 @@
 -- What the reader gives: statements whose formulas and entries are proper, with names that a script can write.
-use Rattle.std.specs.Prelude.{ℕ, List, length, nat_lt, if◌then◌else◌}
+use Rattle.std.specs.Prelude.{List, length, nat_lt, if◌then◌else◌}
 use Rattle.std.specs.List.{AllByRecursion}
 use Rattle.qe_syntax.specs.declared.tree.Literal.{Literal}
 use Rattle.qe_syntax.specs.Names.{IsVariable}

@@ -2,7 +2,6 @@
 #![tactic(auto)]
 
 mod grid;
-mod inner;
 mod literals;
 mod statement;
 

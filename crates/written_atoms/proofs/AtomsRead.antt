@@ -17,7 +17,7 @@ use Rattle.formula_meaning.specs.Atom as meaning
 use Rattle.formula_meaning.specs.Atom.{form_of}
 use Rattle.formula_meaning.proofs.Gathered.{constant_gathered}
 use Rattle.linear_forms.specs.Reduction.{quotient, residue_form}
-use Rattle.atom_normal.specs.NormalForm.{constant_tree, congruence, smaller, first, coprime_congruence, reduced_congruence, ConstantPasses, normal_atom}
+use Rattle.atom_normal.specs.NormalForm.{constant_tree, congruence, smaller, first, coprime_congruence, ConstantPasses, normal_atom}
 use Rattle.atom_normal.specs.NormalForm as normal
 use Rattle.qe_syntax.specs.declared.tree.Literal.TheVariants.{Past}
 use Rattle.qe_syntax.specs.Trees.{TermTree, TermTrees, Number, Named, Sum, Product, Quotient, Power, Negative, none, also, Compare}

@@ -41,7 +41,6 @@ fn with_product(number: i128, factor: i128, times: i128) -> i128
 impl WholeSum {
     ghost use Rattle.std.specs.Prelude.{[], nat_eq, if◌then◌else◌, IfOk, OnOk};
     ghost use Rattle.std.specs.Option.{ForSome};
-    ghost use Rattle.formula_meaning.specs.Form.{Form};
     ghost use Rattle.linear_forms.specs.Combinations.{IsLinear};
     ghost use Rattle.written_atoms.specs.Sum.{IsSumOf, AddsWithin, IsAdded, IsMultiple};
 

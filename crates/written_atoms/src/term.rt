@@ -2,7 +2,6 @@ ghost use Rattle.std.specs.Prelude.{◌≡◌, ℕ, List, false, pos, Ok, map, I
 ghost use Rattle.qe_syntax.specs.declared.tree.Literal.TheVariants.{Fits};
 ghost use Rattle.std.specs.Option.{ForSome};
 ghost use Rattle.std.specs.Result.{ForOk};
-ghost use Rattle.exact_numbers.specs.Frac.{whole_frac};
 ghost use Rattle.formula_meaning.specs.Context as meaning;
 ghost use Rattle.linear_forms.specs.Combinations.{IsLinear};
 ghost use Rattle.atom_normal.specs.Atoms.{context_of};

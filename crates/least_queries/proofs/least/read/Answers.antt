@@ -1,4 +1,4 @@
-use Rattle.std.proofs.Common.{inl, refl, sym, ap, ◌∙◌, ◌≤◌, length, subst, rules, arith}
+use Rattle.std.proofs.Common.{inl, refl, sym, ap, ◌∙◌, subst, rules, arith}
 use Rattle.std.specs.List.{AllByRecursion}
 use Rattle.atom_normal.specs.Atoms.{context_of}
 use Rattle.formula_tree.specs.Makers.{IsMade}
@@ -14,7 +14,7 @@ use Rattle.problem_reading.specs.Reading.{IsReadable}
 use Rattle.formula_resolving.specs.Numbering.{Grows}
 use Rattle.resolved_formulas.specs.Resolving.{formula_variables}
 use Rattle.qe_syntax.specs.Holes.{command_count}
-use Rattle.qe_syntax.specs.CodeTrees.{formula_tree, inner_of, named_tree}
+use Rattle.qe_syntax.specs.CodeTrees.{formula_tree, named_tree}
 use Rattle.qe_syntax.proofs.Alone.{still}
 use Rattle.least_queries.proofs.ProblemNames.{grows_all}
 use Rattle.least_queries.proofs.least.read.Goals as goal

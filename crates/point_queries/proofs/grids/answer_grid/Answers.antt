@@ -3,7 +3,8 @@ use Rattle.std.specs.Prelude.{Result, IfErr}
 use Rattle.statement_syntax.specs.Statements.{Grid}
 use Rattle.session_meaning.specs.declared.line.StatementError.{StatementError}
 use Rattle.problem_reading.specs.FromCommandTools.{use_of, Refuses}
-use Rattle.session_meaning.specs.Meaning.{meaning, numbered}
+use Rattle.session_meaning.specs.Meaning.{meaning}
+use Rattle.session_meaning.specs.Numbered.{numbered}
 use Rattle.problem_reading.specs.FromSessionState.{state_of, answered_tree}
 use Rattle.point_queries.proofs.GridSteps.{first_session, first_numbers, first_entries, command_refused, command_answered, command_next, command_session}
 use Rattle.point_queries.proofs.grids.answer_grid.Goals as goal

@@ -5,7 +5,8 @@ use Rattle.statement_syntax.specs.Statements.{Sample}
 use Rattle.session_meaning.specs.declared.line.Line.{Line}
 use Rattle.session_meaning.specs.declared.line.StatementError.{StatementError}
 use Rattle.problem_reading.specs.FromCommandTools.{use_of, Refuses}
-use Rattle.session_meaning.specs.Meaning.{meaning, numbered}
+use Rattle.session_meaning.specs.Meaning.{meaning}
+use Rattle.session_meaning.specs.Numbered.{numbered}
 use Rattle.problem_reading.specs.FromSessionState.{state_of, answered_tree}
 use Rattle.point_queries.proofs.AskedSteps.{session_named, numbers_there, entries_there, state_later, session_later}
 use Rattle.point_queries.proofs.SampleSteps.{sample_refused, sample_answered}

@@ -1,11 +1,12 @@
 use Rattle.std.proofs.Common.{◌≡◌, ◌∙◌, Err, length, map, sym, ap, subst, rules}
 use Rattle.std.specs.Prelude.{IfErr}
 use Rattle.inner_commands.specs.Order.{nest_of}
+use Rattle.inner_commands.proofs.Gathering.{no_steps}
 use Rattle.point_queries.specs.FromSessionState.{state_of}
 use Rattle.session_commands.specs.Inner.{AreStopped}
 use Rattle.session_commands.proofs.AskedLemmas.{inside_asked}
 use Rattle.session_commands.proofs.InnerSteps.{answering_session}
-use Rattle.session_commands.proofs.InsideLemmas.{ready_alone, answered_alone, no_steps, formula_there, command_written, numbered_text_session, steps_numbered, steps_enough, stopped_there, ready_there, answered_there}
+use Rattle.session_commands.proofs.InsideLemmas.{ready_alone, answered_alone, formula_there, command_written, numbered_text_session, steps_numbered, steps_enough, stopped_there, ready_there, answered_there}
 use Rattle.session_commands.proofs.inner.answer_inside.Goals as goal
 
 pub returns-in_default-clause-ready : goal.returns-in_default-clause-ready

@@ -1,4 +1,3 @@
-use Rattle.point_queries.specs.FromSessionState.{state_of}
 use Rattle.qe_syntax.specs.CodeTrees.{inner_of, whole_command}
 use Rattle.point_queries.specs.FromSessionState.{answered_tree}
 use Rattle.point_queries.proofs.FromSessionState.{scripted_beside}

@@ -12,7 +12,6 @@ use Rattle.resolved_formulas.specs.RationalForms.{constant_form, formed}
 use Rattle.formula_tree.specs.Names.{place}
 use Rattle.resolved_formulas.proofs.LowestForms.{form_is_lowest}
 use Rattle.written_atoms.specs.Rational.{Shows, rational_of}
-use Rattle.written_atoms.specs.Sum.{IsSummed}
 use Rattle.written_atoms.specs.Term.{IsTermRead}
 use Rattle.written_atoms.proofs.TermSizes.{term_size, member_smaller, sum_is, product_is, number_literal, name_is}
 use Rattle.written_atoms.proofs.Readings.{SumLeft, ProductLeft, sum_begun, sum_more, sum_whole, product_begins, product_goes_on, product_ends, quotient_read, power_read, some_there}

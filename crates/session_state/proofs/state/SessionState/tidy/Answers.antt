@@ -5,9 +5,6 @@ use Rattle.formula_store.specs.Nodes.{tree, IsId}
 use Rattle.formula_tree.specs.Makers.{AreMade}
 use Rattle.session_state.proofs.BindingLemmas.{list_by_ids}
 use Rattle.session_state.proofs.StateLemmas.{rebound_session, rebound_state, ids_as_many, cleared_session}
-use Rattle.session_state.proofs.KnownLemmas.{known_formulas}
-use Rattle.session_state.proofs.BesideLemmas.{scripted_beside}
-use Rattle.session_state.proofs.SoundLemmas.{resolved_formula}
 use Rattle.session_state.proofs.state.SessionState.tidy.Goals as goal
 
 pub keep_only-requires : goal.keep_only-requires
