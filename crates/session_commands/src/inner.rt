@@ -6,9 +6,8 @@ ghost use Rattle.formula_store.specs.Nodes.{tree};
 ghost use Rattle.formula_tree.specs.Names.{with_name};
 ghost use Rattle.formula_resolving.specs.Numbering.{Grows};
 ghost use Rattle.inner_commands.specs.Order.{nest_of, IsCounted, AreInOrder};
-ghost use Rattle.inner_commands.specs.Text.{text_variables as formula_text};
 ghost use Rattle.qe_syntax.specs.CodeTrees.{inner_of, whole_command as inner_nest};
-ghost use Rattle.statement_syntax.specs.LastTokens.{all_in_order, inside_count};
+ghost use Rattle.statement_syntax.specs.LastTokens.{inside_count};
 ghost use Rattle.point_queries.specs.FromSessionState.{state_of, IsSessionState, GrowsState};
 ghost use Rattle.session_meaning.specs.Causes.{IsFirst};
 ghost use Rattle.session_meaning.specs.Inside.{inner_use, IsInnerAnswer};
@@ -50,7 +49,9 @@ pub(crate) fn answer_inside<R: Threads + Sync, G: Gate + Sync>(
     let Some((command, formula)) = asked_in(action) else {
         return Ok(());
     };
-    let steps = steps_in(state.alloc, formula)?;
+    let Ok(steps) = commands_inside(state.alloc, formula) else {
+        return Err(StatementError::Memory);
+    };
     if steps.is_empty() {
         return Ok(());
     }
@@ -95,18 +96,6 @@ fn formula_of(command: &Command) -> Option<&Formula>
     }
 }
 
-/// The commands inside the formula, each after those inside it.
-fn steps_in(alloc: Global, formula: &Formula) -> Result<Vec<Step<'_>>, StatementError>
-    ensures order { IfOk result (λ steps. map nest_of steps.items ≡ all_in_order (inner_of formula.now)) }
-    ensures counts { IfOk result (λ steps. AllByRecursion IsCounted steps.items) }
-    ensures memory { IfErr result (λ e. e ≡ StatementError.Memory) }
-{
-    match commands_inside(alloc, formula) {
-        Ok(steps) => Ok(steps),
-        Err(_) => Err(StatementError::Memory),
-    }
-}
-
 /// Numbers the variables of the command in the order of the text, those of the commands inside its formula among them. After an `Err` the names
 /// may have grown.
 fn number_command(
@@ -121,7 +110,9 @@ fn number_command(
     ensures grown { Grows names.old names.new }
     ensures memory { IfErr result (λ e. e ≡ StatementError.Memory) }
 {
-    number_formula(formula, bindings, names)?;
+    if let Err(_failed) = number_text(formula, bindings, names) {
+        return Err(StatementError::Memory);
+    }
     match command {
         Command::Simpl(_, given) | Command::Qe(_, given) | Command::Qea(_, given) => {
             number_all(given.items(), bindings, names)
@@ -133,22 +124,6 @@ fn number_command(
         Command::Echo(_) | Command::Nnf(_) | Command::Pnf(_) | Command::Dnf(_) | Command::Cnf(_) =>
             Ok(()),
         Command::Certify(_) | Command::Check(..) | Command::Least(..) => unreachable!(),
-    }
-}
-
-/// Numbers the variables of the formula and of the commands inside it, in the order of the text.
-fn number_formula(
-    formula: &Formula,
-    bindings: &Bindings<FormulaId>,
-    names: &mut Names,
-) -> Result<(), StatementError>
-    ensures numbered { OnOk result (names.new ≡ fold with_name names.old (formula_text formula.now)) }
-    ensures grown { Grows names.old names.new }
-    ensures memory { IfErr result (λ e. e ≡ StatementError.Memory) }
-{
-    match number_text(formula, bindings, names) {
-        Ok(()) => Ok(()),
-        Err(_) => Err(StatementError::Memory),
     }
 }
 

@@ -23,8 +23,8 @@ returns-then-is_empty-clause-ready g c =
     let b = c.in-Some.command.now in
     let f = c.in-Some.formula.now in
     let asked = c.in-Some.ensures.asked in
-    let e : length c.in_ok-steps.steps.items ≡ 0 = search rules in
-    ready_alone a w (formula_there a w b f asked.0 asked.1 ∙ no_steps c.in_ok-steps.steps.items f c.in_ok-steps.ensures.order e) d
+    let e : length c.in-Ok.steps.items ≡ 0 = search rules in
+    ready_alone a w (formula_there a w b f asked.0 asked.1 ∙ no_steps c.in-Ok.steps.items f c.in-Ok.ensures.order e) d
 
 pub returns-then-is_empty-clause-answered : goal.returns-then-is_empty-clause-answered
 returns-then-is_empty-clause-answered g c =
@@ -34,8 +34,8 @@ returns-then-is_empty-clause-answered g c =
     let b = c.in-Some.command.now in
     let f = c.in-Some.formula.now in
     let asked = c.in-Some.ensures.asked in
-    let e : length c.in_ok-steps.steps.items ≡ 0 = search rules in
-    answered_alone a w (formula_there a w b f asked.0 asked.1 ∙ no_steps c.in_ok-steps.steps.items f c.in_ok-steps.ensures.order e) d c.args.workshop.now.limits.nodes c.requires.settled
+    let e : length c.in-Ok.steps.items ≡ 0 = search rules in
+    answered_alone a w (formula_there a w b f asked.0 asked.1 ∙ no_steps c.in-Ok.steps.items f c.in-Ok.ensures.order e) d c.args.workshop.now.limits.nodes c.requires.settled
 
 pub number_command-requires-clause-written : goal.number_command-requires-clause-written
 number_command-requires-clause-written g c = command_written c.args.action.now c.requires.written c.in-Some.command.now c.in-Some.formula.now c.in-Some.ensures.asked.0 c.in-Some.ensures.asked.1
@@ -64,7 +64,7 @@ answer_steps-requires-clause-numbered g c _ _ =
     let names = c.number_command.new.names in
     let grown = c.number_command.ensures.grown in
     let is = c.in_ok-number_command.ensures.numbered in
-    let order = ap (map nest_of) c.deref.ensures.value ∙ c.in_ok-steps.ensures.order in
+    let order = ap (map nest_of) c.deref.ensures.value ∙ c.in-Ok.ensures.order in
     steps_numbered a w b f asked.0 asked.1 d c.requires.session names grown is c.deref.result.now order
 
 pub answer_steps-requires-clause-enough : goal.answer_steps-requires-clause-enough
@@ -78,7 +78,7 @@ answer_steps-requires-clause-enough g c _ _ =
     let names = c.number_command.new.names in
     let grown = c.number_command.ensures.grown in
     let is = c.in_ok-number_command.ensures.numbered in
-    let order = ap (map nest_of) c.deref.ensures.value ∙ c.in_ok-steps.ensures.order in
+    let order = ap (map nest_of) c.deref.ensures.value ∙ c.in-Ok.ensures.order in
     steps_enough a w b f asked.0 asked.1 d c.requires.session names grown is c.deref.result.now order
 
 pub returns-in_err-answers-clause-stopped : goal.returns-in_err-answers-clause-stopped
@@ -92,7 +92,7 @@ returns-in_err-answers-clause-stopped g c =
     let names = c.number_command.new.names in
     let grown = c.number_command.ensures.grown in
     let is = c.in_ok-number_command.ensures.numbered in
-    let order = ap (map nest_of) c.deref.ensures.value ∙ c.in_ok-steps.ensures.order in
+    let order = ap (map nest_of) c.deref.ensures.value ∙ c.in-Ok.ensures.order in
     let limit = c.args.workshop.now.limits.nodes in
     let e : c.from_residual-in_err-answers.result ≡ Err c.in_err-answers.field-0.0 = search rules in
     subst (λ r. IfErr r (AreStopped a (state_of d) limit)) (sym e)
@@ -112,7 +112,7 @@ returns-clause-ready g c =
     let names = c.number_command.new.names in
     let grown = c.number_command.ensures.grown in
     let is = c.in_ok-number_command.ensures.numbered in
-    let order = ap (map nest_of) c.deref.ensures.value ∙ c.in_ok-steps.ensures.order in
+    let order = ap (map nest_of) c.deref.ensures.value ∙ c.in-Ok.ensures.order in
     let limit = c.args.workshop.now.limits.nodes in
     let later = c.answer_steps.new.state in
     let answers = c.in_ok-answers.answers in
@@ -129,7 +129,7 @@ returns-clause-answered g c =
     let names = c.number_command.new.names in
     let grown = c.number_command.ensures.grown in
     let is = c.in_ok-number_command.ensures.numbered in
-    let order = ap (map nest_of) c.deref.ensures.value ∙ c.in_ok-steps.ensures.order in
+    let order = ap (map nest_of) c.deref.ensures.value ∙ c.in-Ok.ensures.order in
     let limit = c.args.workshop.now.limits.nodes in
     let later = c.answer_steps.new.state in
     let answers = c.in_ok-answers.answers in
