@@ -8,11 +8,11 @@ use Rattle.exact_numbers.specs.Divides.{Divides, residue_of}
 use Rattle.exact_numbers.proofs.Ring.{mul_comm, mul_zero, zero_mul}
 use Rattle.exact_numbers.proofs.Order.{by_zero, mul_positive}
 use Rattle.exact_numbers.proofs.Floor.{divides_from_residue, residue_of_multiple}
-use Rattle.formula_meaning.specs.Context.{Context, Fields, Integers}
-use Rattle.formula_meaning.specs.Point.{Point, Of}
-use Rattle.formula_meaning.specs.Form.{Form, value}
-use Rattle.formula_meaning.specs.Atom.{Atom, Compare, Congruent, Says, IsMultiple}
-use Rattle.atom_normal.proofs.NormalLaws.{atom_decided}
+use Rattle.logic_meaning.specs.Context.{Context, Fields, Integers}
+use Rattle.logic_meaning.specs.Point.{Point, Of}
+use Rattle.logic_meaning.specs.Form.{Form, value}
+use Rattle.logic_meaning.specs.Atom.{Atom, Compare, Congruent, Says, IsMultiple}
+use Rattle.normal_atoms.proofs.NormalLaws.{atom_decided}
 
 -- a point of the integers is one of the ordered fields
 pub of_fields : (c : Context) (p : Point ℕ) → Of c p → Of Fields p

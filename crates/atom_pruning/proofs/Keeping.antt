@@ -2,9 +2,9 @@
 use Rattle.std.proofs.Common.{◌≡◌, ℕ, zero, suc, ◌+◌, ◌<◌, ◌≤◌, ◌≢◌, Bool, true, false, not, IsTrue, List, [], ◌∷◌, length, get_or, set, take, ap, sym, ◌∙◌, subst, refl, ⊎_elim, arith}
 use Rattle.std.proofs.lemmas.Bool.{cases_lt, cases_eq}
 use Rattle.std.proofs.lemmas.List.{get_or-set_other, get_or-set_same, get_or-take, length-set, length-take}
-use Rattle.formula_meaning.specs.Context.{Context}
-use Rattle.formula_meaning.specs.Point.{Point, Of}
-use Rattle.formula_meaning.specs.Atom.{Atom}
+use Rattle.logic_meaning.specs.Context.{Context}
+use Rattle.logic_meaning.specs.Point.{Point, Of}
+use Rattle.logic_meaning.specs.Atom.{Atom}
 use Rattle.atom_pruning.specs.declared.rows.AtomRows.{AtomRows}
 use Rattle.atom_pruning.specs.Rows.{AreRows}
 use Rattle.atom_pruning.specs.Kept.{AllSay, AreEnough, AreImpossible, Imply}

@@ -2,7 +2,7 @@
 use Rattle.std.proofs.Common.{◌≡◌, ℕ, zero, suc, ◌+◌, ◌-◌, ◌<◌, ◌≤◌, Bool, true, false, cond, ltb, List, [], ◌∷◌, length, get_or, set, ap, sym, ◌∙◌, subst, refl, ⊎_elim, arith}
 use Rattle.std.proofs.lemmas.Bool.{lt-ltb, le-ltb, cases_eq, false≢true}
 use Rattle.std.proofs.lemmas.List.{get_or-set_other}
-use Rattle.formula_meaning.specs.Point.{Point}
+use Rattle.logic_meaning.specs.Point.{Point}
 use Rattle.atom_pruning.specs.Rows.{MeetsAny}
 use Rattle.atom_pruning.specs.Asked.{Asked, without_rows, negations, row_at, MeetsMarked, AreRefuted, AreEnoughFor}
 

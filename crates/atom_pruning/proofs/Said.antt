@@ -1,9 +1,9 @@
 -- Atoms by their places, and the rows that a point meets where they are true.
 use Rattle.std.proofs.Common.{◌≡◌, ℕ, zero, suc, ◌+◌, ◌-◌, ◌<◌, ◌≤◌, Bool, true, false, List, [], ◌∷◌, length, get_or, ap, sym, ◌∙◌, subst, refl, ⊎_elim, arith}
 use Rattle.std.proofs.lemmas.Bool.{cases_lt, false≢true}
-use Rattle.formula_meaning.specs.Context.{Context, Fields}
-use Rattle.formula_meaning.specs.Point.{Point, Of}
-use Rattle.formula_meaning.specs.Atom.{Atom, Says}
+use Rattle.logic_meaning.specs.Context.{Context, Fields}
+use Rattle.logic_meaning.specs.Point.{Point, Of}
+use Rattle.logic_meaning.specs.Atom.{Atom, Says}
 use Rattle.atom_pruning.specs.declared.rows.AtomRows.{AtomRows}
 use Rattle.atom_pruning.specs.Rows.{MeetsAny, AreRows}
 use Rattle.atom_pruning.specs.Kept.{AllSay, marked}

@@ -1,8 +1,8 @@
 -- Rows that are asked about together, and when no point meets those that are marked.
 use Rattle.std.specs.Prelude.{◌≡◌, ℕ, ◌+◌, ◌-◌, Bool, true, false, List, Option, None, length, nat_lt, slice_index_or, if◌then◌else◌}
-use Rattle.formula_meaning.specs.Context.{Fields}
-use Rattle.formula_meaning.specs.Point.{Point, Of}
-use Rattle.farkas_cert.specs.declared.constraint.Constraint.{Constraint}
+use Rattle.logic_meaning.specs.Context.{Fields}
+use Rattle.logic_meaning.specs.Point.{Point, Of}
+use Rattle.certificates.specs.declared.constraint.Constraint.{Constraint}
 use Rattle.atom_pruning.specs.declared.rows.AtomRows.{AtomRows}
 use Rattle.atom_pruning.specs.declared.row_list.RowList.{RowList}
 use Rattle.atom_pruning.specs.Rows.{MeetsAny}

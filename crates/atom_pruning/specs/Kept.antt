@@ -1,9 +1,9 @@
 -- Which atoms of a conjunction say all that it says, under assumptions.
 use Rattle.std.specs.Prelude.{◌≡◌, ℕ, Bool, true, false, List, [], ◌∷◌, length}
-use Rattle.formula_meaning.specs.Context.{Context}
-use Rattle.formula_meaning.specs.Point.{Point, Of}
-use Rattle.formula_meaning.specs.Some.{EachOf}
-use Rattle.formula_meaning.specs.Atom.{Atom, Says}
+use Rattle.logic_meaning.specs.Context.{Context}
+use Rattle.logic_meaning.specs.Point.{Point, Of}
+use Rattle.logic_meaning.specs.Some.{EachOf}
+use Rattle.logic_meaning.specs.Atom.{Atom, Says}
 use Rattle.atom_pruning.specs.declared.pruning.Pruned.{Pruned}
 use Rattle.atom_pruning.specs.declared.pruning.Pruned.TheVariants.{Impossible, Marked}
 

@@ -1,11 +1,11 @@
 -- Rows of an atom: constraints that a point meets where the atom is true, and where it is not.
 use Rattle.std.specs.Prelude.{ℕ, List, [], ◌∷◌, Option, Some, None}
-use Rattle.formula_meaning.specs.Context.{Context}
-use Rattle.formula_meaning.specs.Point.{Point, Of}
-use Rattle.formula_meaning.specs.Atom.{Atom, Says}
-use Rattle.farkas_theory.specs.Meeting.{Meets}
-use Rattle.farkas_cert.specs.declared.constraint.Constraint.{Constraint}
-use Rattle.farkas_cert.specs.Constraints.{constraint_of}
+use Rattle.logic_meaning.specs.Context.{Context}
+use Rattle.logic_meaning.specs.Point.{Point, Of}
+use Rattle.logic_meaning.specs.Atom.{Atom, Says}
+use Rattle.linear_theory.specs.Meeting.{Meets}
+use Rattle.certificates.specs.declared.constraint.Constraint.{Constraint}
+use Rattle.certificates.specs.Constraints.{constraint_of}
 use Rattle.atom_pruning.specs.declared.rows.AtomRows.{AtomRows}
 
 -- the point meets the constraint, if there is one

@@ -1,12 +1,12 @@
 //! Constraints beside multipliers of them.
 
 ghost use Rattle.std.specs.Prelude.{◌≡◌, ◌++◌, [], ◌∷◌, ℕ, IfOk, OnOk, IsTrue, map};
-ghost use Rattle.formula_meaning.specs.Context.{Fields};
-ghost use Rattle.formula_meaning.specs.Point.{Point, Of};
-ghost use Rattle.farkas_theory.specs.Meeting.{MeetsAll};
-ghost use Rattle.farkas_cert.specs.Constraints.{constraint_of};
+ghost use Rattle.logic_meaning.specs.Context.{Fields};
+ghost use Rattle.logic_meaning.specs.Point.{Point, Of};
+ghost use Rattle.linear_theory.specs.Meeting.{MeetsAll};
+ghost use Rattle.certificates.specs.Constraints.{constraint_of};
 
-use farkas_cert::{CertError, Constraint, check};
+use certificates::{CertError, Constraint, check};
 use std::alloc::{AllocError, Global};
 
 // Constraints, and a multiplier for each.

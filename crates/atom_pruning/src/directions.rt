@@ -4,7 +4,7 @@ ghost use Rattle.std.specs.Prelude.{◌≤◌};
 
 use crate::sides::{Sides, Step};
 use crate::table::{Line, Table};
-use farkas_cert::Bound;
+use certificates::Bound;
 use std::alloc::{AllocError, Global};
 
 const STEPS: [Step; 2] = [Step::Up, Step::Down];

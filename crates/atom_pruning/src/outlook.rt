@@ -2,7 +2,7 @@
 
 use crate::rows::AtomRows;
 use crate::signs::{Part, Signs};
-use atom_normal::{Atom, Context};
+use normal_atoms::{Atom, Context};
 use std::alloc::{AllocError, Global};
 
 // A row, if there is one; whether it is left, and the signs of the rows before it that are.

@@ -1,8 +1,8 @@
 //! Which atoms of a conjunction are needed.
 
 ghost use Rattle.std.specs.Prelude.{◌≤◌, List, IfOk, IsTrue};
-ghost use Rattle.formula_meaning.specs.Context.{Context as Theory};
-ghost use Rattle.formula_meaning.specs.Atom.{Atom as Meant};
+ghost use Rattle.logic_meaning.specs.Context.{Context as Theory};
+ghost use Rattle.logic_meaning.specs.Atom.{Atom as Meant};
 ghost use Rattle.atom_pruning.specs.Rows.{AreRows};
 ghost use Rattle.atom_pruning.specs.Kept.{AreImpossible, IsKept};
 

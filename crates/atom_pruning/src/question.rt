@@ -1,15 +1,15 @@
 //! Which rows are refuted together.
 
 ghost use Rattle.std.specs.Prelude.{◌≡◌, ◌<◌, ◌≤◌, ℕ, true, false, IfOk, IfSome, OnOk, IsTrue, length, map, slice_index_or};
-ghost use Rattle.formula_meaning.specs.Point.{Point};
-ghost use Rattle.farkas_theory.specs.Meeting.{Meets, MeetsAll};
-ghost use Rattle.farkas_cert.specs.Constraints.{constraint_of};
+ghost use Rattle.logic_meaning.specs.Point.{Point};
+ghost use Rattle.linear_theory.specs.Meeting.{Meets, MeetsAll};
+ghost use Rattle.certificates.specs.Constraints.{constraint_of};
 ghost use Rattle.atom_pruning.specs.Asked.{asked_of, negations, MeetsMarked, AreRefuted, AreEnoughFor, AreMarks};
 
 use crate::combination::Combination;
 use crate::names::Names;
 use crate::row_list::RowList;
-use farkas_cert::{Bound, Constraint};
+use certificates::{Bound, Constraint};
 use simplex_search::{Sense, System};
 use std::alloc::{AllocError, Global};
 

@@ -5,7 +5,7 @@ ghost use Rattle.std.specs.Option.{option_copied};
 ghost use Rattle.atom_pruning.specs.Asked.{asked_of, row_at, negations};
 
 use crate::rows::AtomRows;
-use farkas_cert::Constraint;
+use certificates::Constraint;
 
 // The rows of given atoms, of assumptions, and of the negations of atoms, in this order. A place is that of an atom; where the atom has
 // no row, it is empty.

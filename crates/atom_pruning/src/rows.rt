@@ -1,17 +1,17 @@
 //! The rows of an atom.
 
 ghost use Rattle.std.specs.Prelude.{◌≡◌, ℕ, pos, ◌<ℤ◌, ◌≤ℤ◌, neg_ℤ, IfOk};
-ghost use Rattle.formula_meaning.specs.Point.{Point, Of};
-ghost use Rattle.formula_meaning.specs.Form.{value};
-ghost use Rattle.formula_meaning.specs.Atom.{Relates};
-ghost use Rattle.farkas_theory.specs.Meeting.{Meets};
-ghost use Rattle.farkas_cert.specs.Constraints.{constraint_of};
-ghost use Rattle.atom_normal.specs.Atoms.{context_of, atom_of, relation_of, IsWellFormed};
+ghost use Rattle.logic_meaning.specs.Point.{Point, Of};
+ghost use Rattle.logic_meaning.specs.Form.{value};
+ghost use Rattle.logic_meaning.specs.Atom.{Relates};
+ghost use Rattle.linear_theory.specs.Meeting.{Meets};
+ghost use Rattle.certificates.specs.Constraints.{constraint_of};
+ghost use Rattle.normal_atoms.specs.Atoms.{context_of, atom_of, relation_of, IsWellFormed};
 ghost use Rattle.atom_pruning.specs.Rows.{MeetsAny, AreRowsOf};
 
-use atom_normal::{Atom, Context, Rel, opposite};
-use farkas_cert::{Bound, Constraint};
+use certificates::{Bound, Constraint};
 use linear_forms::Linear;
+use normal_atoms::{Atom, Context, Rel, opposite};
 use std::alloc::{AllocError, Global};
 
 /// Constraints on a point of the theory: one that it meets where an atom is true, and one that it meets where the atom is not. There is

@@ -5,7 +5,7 @@ ghost use Rattle.std.specs.Prelude.{◌≤◌};
 use crate::names::Names;
 use crate::row_list::RowList;
 use crate::rows::AtomRows;
-use farkas_cert::{Bound, Constraint};
+use certificates::{Bound, Constraint};
 use simplex_search::{Point, Sense, System};
 use std::alloc::{AllocError, Global};
 

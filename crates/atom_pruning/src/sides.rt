@@ -1,7 +1,7 @@
 //! On which sides rows have names.
 
 use crate::table::Line;
-use farkas_cert::Bound;
+use certificates::Bound;
 use std::alloc::{AllocError, Global};
 
 // How many rows are told from each other.

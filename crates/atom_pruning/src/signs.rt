@@ -1,9 +1,10 @@
 //! The signs of the names of forms that are bounded by 0.
 
 use crate::rows::AtomRows;
-use atom_normal::{Atom, Context, Rel, opposite};
-use farkas_cert::{Bound, Constraint};
-use linear_forms::{Linear, VarId};
+use certificates::{Bound, Constraint};
+use linear_forms::Linear;
+use logic_meaning::VarId;
+use normal_atoms::{Atom, Context, Rel, opposite};
 
 // How many names are told from each other.
 const BITS: usize = 128;

@@ -2,7 +2,7 @@
 
 use crate::names::Names;
 use crate::rows::AtomRows;
-use farkas_cert::{Bound, Constraint};
+use certificates::{Bound, Constraint};
 use std::alloc::{AllocError, Global};
 
 // Tables with more coefficients are not made.

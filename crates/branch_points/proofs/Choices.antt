@@ -3,28 +3,29 @@ use Rattle.std.proofs.lemmas.List.{length-map}
 use Rattle.std.proofs.Common.{◌≡◌, ◌≤◌, max, length, arith, ℕ, true, false, is_some, Option, Some, None, List, [], ◌∷◌, All as Each, map, refl, ap, sym, ◌∙◌, subst}
 use Rattle.std.specs.List.{AllByRecursion}
 use Rattle.std.proofs.lemmas.List.Elements.{All-from_recursion}
-use Rattle.formula_meaning.specs.Context as meaning
-use Rattle.formula_meaning.specs.Atom as meant
-use Rattle.formula_meaning.specs.Formula.{And}
-use Rattle.formula_meaning.specs.Form.{Form}
-use Rattle.formula_meaning.specs.Some.{Among, EachOf}
-use Rattle.formula_meaning.specs.Answer.{Place}
-use Rattle.formula_meaning.specs.Tree.{Tree, Trees, IsFree}
-use Rattle.elimination_theory.specs.Answers.{zero_place}
-use Rattle.elimination_theory.specs.BothTheories.{IsPlaceIn}
+use Rattle.logic_meaning.specs.Context as meaning
+use Rattle.logic_meaning.specs.Atom as meant
+use Rattle.logic_meaning.specs.Formula.{And}
+use Rattle.logic_meaning.specs.Form.{Form}
+use Rattle.logic_meaning.specs.Some.{Among, EachOf}
+use Rattle.logic_meaning.specs.Answer.{Place}
+use Rattle.logic_meaning.specs.Tree.{Tree, Trees, IsFree}
+use Rattle.logic_meaning.specs.Answers.{zero_place}
+use Rattle.logic_meaning.specs.BothTheories.{IsPlaceIn}
 use Rattle.elimination_theory.proofs.BothSubstitutions.{place_in}
 use Rattle.elimination_theory.proofs.SomeListed.{each_among, each_map}
-use Rattle.test_points.specs.FromEliminationReference.{stands_among, IsTidy}
-use Rattle.test_points.proofs.FromEliminationReference.{tidy_in}
-use Rattle.linear_forms.specs.declared.form.VarId.{VarId}
-use Rattle.atom_normal.specs.declared.atoms.Context.{Context}
-use Rattle.atom_normal.specs.declared.atoms.Atom.{Atom}
-use Rattle.atom_normal.specs.Atoms.{atom_of, context_of}
+use Rattle.elimination_theory.specs.Theorems.{IsTidy}
+use Rattle.logic_meaning.specs.Reference.{stands_among}
+use Rattle.elimination_theory.proofs.Tidy.{tidy_in}
+use Rattle.logic_meaning.specs.declared.form.VarId.{VarId}
+use Rattle.normal_atoms.specs.declared.atoms.Context.{Context}
+use Rattle.normal_atoms.specs.declared.atoms.Atom.{Atom}
+use Rattle.normal_atoms.specs.Atoms.{atom_of, context_of}
 use Rattle.test_points.specs.declared.points.TestPoint.{TestPoint}
 use Rattle.test_points.specs.Points.{place_of, IsPointOf}
 use Rattle.case_theory.specs.Points.{IsPointFor, ArePointsFor}
-use Rattle.case_theory.specs.Roots.{IsRoot}
-use Rattle.case_theory.specs.Direct.{first_equation}
+use Rattle.logic_meaning.specs.Roots.{IsRoot}
+use Rattle.logic_meaning.specs.Direct.{first_equation}
 use Rattle.case_theory.proofs.Points.{zero_point, root_point, side_points}
 use Rattle.branch_points.specs.declared.choice.Chosen.{Chosen}
 use Rattle.branch_points.specs.Chosen.{AreAtomsOf, conjuncts, HasNoEquation, IsRootAmong, IsOnSide, IsChosen, IsByRule, NeedsCounting}

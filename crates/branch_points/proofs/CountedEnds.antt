@@ -8,19 +8,19 @@ use Rattle.std.proofs.lemmas.Bool.{cases_eq}
 use Rattle.std.proofs.lemmas.List.{take_all, map-append, length-map}
 use Rattle.std.proofs.lemmas.List.Sums.{sum_by-cons, count_by-le-length}
 use Rattle.std.proofs.lemmas.Option.{slice_get-get_or}
-use Rattle.formula_meaning.specs.Form.{Form, Term, multiple, coefficient, without, scale}
-use Rattle.formula_meaning.specs.Sorted.{AllAbove, IsRising, AllNonzero}
-use Rattle.formula_meaning.specs.Atom.{Atom, Relation, Compare, Congruent, Equals, Differs, Below, AtMost, Above, AtLeast, mirrored, form_of}
-use Rattle.formula_meaning.proofs.Sorted.{here, elsewhere}
-use Rattle.elimination_theory.specs.Side.{turned}
-use Rattle.elimination_theory.specs.declared.side.Side.{Side}
-use Rattle.elimination_theory.specs.IntegersPoints.{starts_of, comparison_starts}
-use Rattle.test_points.specs.FromEliminationReference.{stands_among}
-use Rattle.linear_forms.specs.declared.form.VarId.{VarId}
+use Rattle.logic_meaning.specs.Form.{Form, Term, multiple, coefficient, without, scale}
+use Rattle.logic_meaning.specs.Sorted.{AllAbove, IsRising, AllNonzero}
+use Rattle.logic_meaning.specs.Atom.{Atom, Relation, Compare, Congruent, Equals, Differs, Below, AtMost, Above, AtLeast, mirrored, form_of}
+use Rattle.formula_laws.proofs.Sorted.{here, elsewhere}
+use Rattle.logic_meaning.specs.Side.{turned}
+use Rattle.logic_meaning.specs.declared.side.Side.{Side}
+use Rattle.logic_meaning.specs.IntegersPoints.{starts_of, comparison_starts}
+use Rattle.logic_meaning.specs.Reference.{stands_among}
+use Rattle.logic_meaning.specs.declared.form.VarId.{VarId}
 use Rattle.linear_forms.specs.Linear.{term_of}
-use Rattle.cooper_periods.specs.Starts.{has_end}
-use Rattle.atom_normal.specs.declared.atoms.Atom as program
-use Rattle.atom_normal.specs.Atoms.{atom_of}
+use Rattle.test_points.specs.Starts.{has_end}
+use Rattle.normal_atoms.specs.declared.atoms.Atom as program
+use Rattle.normal_atoms.specs.Atoms.{atom_of}
 use Rattle.formula_tree.specs.declared.shape.Shape.{Shape}
 use Rattle.formula_tree.specs.declared.shape.Shape.TheVariants as shape
 use Rattle.formula_store.specs.declared.id.FormulaId.{FormulaId}

@@ -3,17 +3,17 @@ use Rattle.std.proofs.Common.{◌≡◌, ℕ, zero, suc, ◌+◌, ◌≤◌, ◌
 use Rattle.std.proofs.Math.IntN.{ℤ, pos, negsuc, neg_ℤ}
 use Rattle.std.specs.Prelude.{nat_lt}
 use Rattle.std.proofs.lemmas.List.Sums.{sum_by-cons}
-use Rattle.formula_meaning.specs.Context.{Context, Fields, Integers}
-use Rattle.formula_meaning.specs.Form.{Form, coefficient, without, scale}
-use Rattle.formula_meaning.specs.Atom.{Atom, Relation, Compare, Congruent, Equals, Differs, Below, AtMost, Above, AtLeast, mirrored}
-use Rattle.formula_meaning.specs.Answer.{same_place}
-use Rattle.formula_meaning.proofs.Sizes.{distinct_shorter}
-use Rattle.elimination_theory.specs.Side.{turned}
-use Rattle.elimination_theory.specs.declared.side.Side.{Side}
-use Rattle.elimination_theory.specs.BothTheories.{test_points}
-use Rattle.elimination_theory.specs.FieldsPoints.{ends_of, comparison_points, atom_points, infinity_of}
-use Rattle.elimination_theory.specs.IntegersPoints.{starts_of, comparison_starts, scale_of, own_span, points_with}
-use Rattle.cooper_periods.specs.Starts.{has_end}
+use Rattle.logic_meaning.specs.Context.{Context, Fields, Integers}
+use Rattle.logic_meaning.specs.Form.{Form, coefficient, without, scale}
+use Rattle.logic_meaning.specs.Atom.{Atom, Relation, Compare, Congruent, Equals, Differs, Below, AtMost, Above, AtLeast, mirrored}
+use Rattle.logic_meaning.specs.Answer.{same_place}
+use Rattle.formula_laws.proofs.Sizes.{distinct_shorter}
+use Rattle.logic_meaning.specs.Side.{turned}
+use Rattle.logic_meaning.specs.declared.side.Side.{Side}
+use Rattle.logic_meaning.specs.BothTheories.{test_points}
+use Rattle.logic_meaning.specs.FieldsPoints.{ends_of, comparison_points, atom_points, infinity_of}
+use Rattle.logic_meaning.specs.IntegersPoints.{starts_of, comparison_starts, scale_of, own_span, points_with}
+use Rattle.test_points.specs.Starts.{has_end}
 use Rattle.branch_points.specs.Counts.{count_of}
 
 -- an end over the fields is one over the integers

@@ -2,14 +2,14 @@
 use Rattle.std.proofs.Common.{◌≡◌, true, [], ◌∷◌, List, Some, None, refl}
 use Rattle.std.proofs.Math.IntN.{ℤ, pos}
 use Rattle.exact_numbers.specs.Divides.{gcd_of, euclid, lcm_of}
-use Rattle.formula_meaning.specs.Context.{Fields, Integers}
-use Rattle.formula_meaning.specs.Formula.{One, And, Or}
-use Rattle.formula_meaning.specs.NegationNormal.{both}
-use Rattle.formula_meaning.specs.Form.{Form, coefficient}
-use Rattle.formula_meaning.specs.Atom.{Atom, Compare, Congruent, Equals, Above, AtMost}
-use Rattle.elimination_theory.specs.declared.side.Side.TheVariants.{Lower, Upper}
+use Rattle.logic_meaning.specs.Context.{Fields, Integers}
+use Rattle.logic_meaning.specs.Formula.{One, And, Or}
+use Rattle.logic_meaning.specs.NegationNormal.{both}
+use Rattle.logic_meaning.specs.Form.{Form, coefficient}
+use Rattle.logic_meaning.specs.Atom.{Atom, Compare, Congruent, Equals, Above, AtMost}
+use Rattle.logic_meaning.specs.declared.side.Side.TheVariants.{Lower, Upper}
 use Rattle.elimination_theory.specs.FieldsExample.{multiple_of}
-use Rattle.case_theory.specs.Direct.{first_equation}
+use Rattle.logic_meaning.specs.Direct.{first_equation}
 use Rattle.branch_points.specs.Chosen.{conjuncts}
 use Rattle.branch_points.specs.Counts.{count_of}
 

@@ -1,16 +1,16 @@
 -- The name and the side with the fewest points, one name after another.
 use Rattle.std.proofs.Common.{◌≡◌, ℕ, suc, zero, ◌+◌, ◌<◌, ◌≤◌, List, [], ◌∷◌, Option, Some, None, length, get_or, take, sym, subst, arith, ◌⊎◌, inl, inr, ⊎_elim}
 use Rattle.std.specs.Prelude.{IfSome}
-use Rattle.formula_meaning.specs.Context as meaning
-use Rattle.formula_meaning.specs.Some.{EachOf}
-use Rattle.formula_meaning.specs.Atom.{Atom}
-use Rattle.elimination_theory.specs.declared.side.Side.{Side}
-use Rattle.elimination_theory.specs.declared.side.Side.TheVariants.{Lower, Upper}
-use Rattle.elimination_theory.specs.IntegersPoints.{integer_count_of}
+use Rattle.logic_meaning.specs.Context as meaning
+use Rattle.logic_meaning.specs.Some.{EachOf}
+use Rattle.logic_meaning.specs.Atom.{Atom}
+use Rattle.logic_meaning.specs.declared.side.Side.{Side}
+use Rattle.logic_meaning.specs.declared.side.Side.TheVariants.{Lower, Upper}
+use Rattle.logic_meaning.specs.IntegersPoints.{integer_count_of}
 use Rattle.elimination_theory.proofs.SomeListed.{each_map}
-use Rattle.linear_forms.specs.declared.form.VarId.{VarId}
-use Rattle.atom_normal.specs.declared.atoms.Context.{Context}
-use Rattle.atom_normal.specs.Atoms.{context_of}
+use Rattle.logic_meaning.specs.declared.form.VarId.{VarId}
+use Rattle.normal_atoms.specs.declared.atoms.Context.{Context}
+use Rattle.normal_atoms.specs.Atoms.{context_of}
 use Rattle.branch_points.specs.declared.counts.Candidate.{Candidate}
 use Rattle.branch_points.specs.declared.ends.Ends.{Ends}
 use Rattle.branch_points.specs.Ends.{end_count, AreEnds}

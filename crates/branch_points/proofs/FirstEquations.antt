@@ -1,18 +1,18 @@
 -- The first equation among some formulas.
 use Rattle.std.proofs.Common.{◌≡◌, ℕ, suc, zero, Option, Some, None, List, refl, ap, ◌⊎◌, inl, inr, ⊎_elim}
 use Rattle.std.proofs.Math.IntN.{ℤ, pos, negsuc}
-use Rattle.formula_meaning.specs.Formula.{Yes, No, One, Not, And, Or, Impl, Repl, Equiv, Ex, All, none, also}
-use Rattle.formula_meaning.specs.Form.{Form, coefficient}
-use Rattle.formula_meaning.specs.Atom.{Atom, Compare, Congruent, Equals, Differs, Below, AtMost, Above, AtLeast}
-use Rattle.formula_meaning.specs.Tree.{Tree, Trees}
-use Rattle.elimination_theory.specs.Substitution.{where_zero}
-use Rattle.atom_normal.specs.declared.atoms.Atom.TheVariants as atom
-use Rattle.atom_normal.specs.declared.atoms.Rel.TheVariants as rel
+use Rattle.logic_meaning.specs.Formula.{Yes, No, One, Not, And, Or, Impl, Repl, Equiv, Ex, All, none, also}
+use Rattle.logic_meaning.specs.Form.{Form, coefficient}
+use Rattle.logic_meaning.specs.Atom.{Atom, Compare, Congruent, Equals, Differs, Below, AtMost, Above, AtLeast}
+use Rattle.logic_meaning.specs.Tree.{Tree, Trees}
+use Rattle.logic_meaning.specs.Substitution.{where_zero}
+use Rattle.normal_atoms.specs.declared.atoms.Atom.TheVariants as atom
+use Rattle.normal_atoms.specs.declared.atoms.Rel.TheVariants as rel
 use Rattle.formula_tree.specs.declared.shape.Shape.{Shape}
 use Rattle.formula_tree.specs.declared.shape.Shape.TheVariants as shape
 use Rattle.formula_tree.specs.Shapes.{tree_over}
 use Rattle.case_theory.specs.Points.{IsConjunct, IsConjunctOfSome}
-use Rattle.case_theory.specs.Direct.{equation_of, first_of_two, first_equation}
+use Rattle.logic_meaning.specs.Direct.{equation_of, first_of_two, first_equation}
 use Rattle.branch_points.specs.Chosen.{conjuncts}
 
 -- ---- it is a conjunct

@@ -5,19 +5,19 @@ use Rattle.std.proofs.lemmas.Grind.{flat_map-append}
 use Rattle.std.proofs.lemmas.List.{map-append, take_more, take_all}
 use Rattle.std.proofs.lemmas.List.Elements.{All-from_recursion}
 use Rattle.std.proofs.lemmas.Option.{slice_get-get_or, get_or_from_slice_get}
-use Rattle.formula_meaning.specs.Formula.{Yes, No, One, Not, And, Or, Impl, Repl, Equiv, Ex, All, none, also}
-use Rattle.formula_meaning.specs.Some.{Among, EachOf}
-use Rattle.formula_meaning.specs.StandsOnce.{StandsOnce}
-use Rattle.formula_meaning.specs.Same.{same_atom}
-use Rattle.formula_meaning.specs.Sizes.{subtrees, all_subtrees}
-use Rattle.formula_meaning.specs.Atom.{Atom}
-use Rattle.formula_meaning.specs.Tree.{Tree, Trees}
-use Rattle.formula_meaning.proofs.Listed.{among_left, among_right, among_append, among_flat_map, flat_map_among, among_distinct, distinct_among}
-use Rattle.formula_meaning.proofs.Same.{atom_same}
-use Rattle.elimination_theory.specs.Atoms.{atoms_in, atoms_in_all, atoms_of}
+use Rattle.logic_meaning.specs.Formula.{Yes, No, One, Not, And, Or, Impl, Repl, Equiv, Ex, All, none, also}
+use Rattle.logic_meaning.specs.Some.{Among, EachOf}
+use Rattle.formula_laws.specs.StandsOnce.{StandsOnce}
+use Rattle.logic_meaning.specs.Same.{same_atom}
+use Rattle.logic_meaning.specs.Sizes.{subtrees, all_subtrees}
+use Rattle.logic_meaning.specs.Atom.{Atom}
+use Rattle.logic_meaning.specs.Tree.{Tree, Trees}
+use Rattle.formula_laws.proofs.Listed.{among_left, among_right, among_append, among_flat_map, flat_map_among, among_distinct, distinct_among}
+use Rattle.formula_laws.proofs.Same.{atom_same}
+use Rattle.logic_meaning.specs.Atoms.{atoms_in, atoms_in_all, atoms_of}
 use Rattle.elimination_theory.proofs.SomeListed.{each_append}
-use Rattle.atom_normal.specs.declared.atoms.Atom as code
-use Rattle.atom_normal.specs.Atoms.{atom_of, IsWellFormed}
+use Rattle.normal_atoms.specs.declared.atoms.Atom as code
+use Rattle.normal_atoms.specs.Atoms.{atom_of, IsWellFormed}
 use Rattle.formula_tree.specs.declared.shape.Shape.{Shape}
 use Rattle.formula_tree.specs.declared.shape.Shape.TheVariants as shape
 use Rattle.formula_tree.specs.Shapes.{tree_over, IsProperShape}

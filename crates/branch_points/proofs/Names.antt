@@ -2,20 +2,20 @@
 use Rattle.std.proofs.Common.{◌≡◌, ℕ, suc, zero, ◌<◌, Bool, true, false, if◌then◌else◌, List, [], ◌∷◌, map, length, get_or, refl, ap, sym, ◌∙◌, subst, arith, inl, inr, ⊎_elim, ◌↔◌, true≢false, int_eq}
 use Rattle.std.specs.Prelude.{pos}
 use Rattle.std.specs.Cmp.{signed_Decides}
-use Rattle.formula_meaning.specs.Formula.{Yes, No, One, Not, And, Or, Impl, Repl, Equiv, Ex, All, none, also}
-use Rattle.formula_meaning.specs.Every.{FreeInSome}
-use Rattle.formula_meaning.specs.Some.{Among}
-use Rattle.formula_meaning.specs.Form.{coefficient}
-use Rattle.formula_meaning.specs.Plain.{IsPlain, ArePlain}
-use Rattle.formula_meaning.specs.Atom.{Atom, Mentions, form_of}
-use Rattle.formula_meaning.specs.Same.{same_atom}
-use Rattle.formula_meaning.specs.Tree.{Tree, Trees, IsFree}
-use Rattle.formula_meaning.proofs.Listed.{among_left, among_right, among_distinct}
-use Rattle.formula_meaning.proofs.Same.{atom_same}
-use Rattle.elimination_theory.specs.Atoms.{atoms_in, atoms_in_all, atoms_of}
+use Rattle.logic_meaning.specs.Formula.{Yes, No, One, Not, And, Or, Impl, Repl, Equiv, Ex, All, none, also}
+use Rattle.logic_meaning.specs.Every.{FreeInSome}
+use Rattle.logic_meaning.specs.Some.{Among}
+use Rattle.logic_meaning.specs.Form.{coefficient}
+use Rattle.logic_meaning.specs.Plain.{IsPlain, ArePlain}
+use Rattle.logic_meaning.specs.Atom.{Atom, Mentions, form_of}
+use Rattle.logic_meaning.specs.Same.{same_atom}
+use Rattle.logic_meaning.specs.Tree.{Tree, Trees, IsFree}
+use Rattle.formula_laws.proofs.Listed.{among_left, among_right, among_distinct}
+use Rattle.formula_laws.proofs.Same.{atom_same}
+use Rattle.logic_meaning.specs.Atoms.{atoms_in, atoms_in_all, atoms_of}
 use Rattle.elimination_theory.proofs.FieldsNames.{atom_free}
-use Rattle.test_points.specs.FromEliminationReference.{stands_among}
-use Rattle.linear_forms.specs.declared.form.VarId.{VarId}
+use Rattle.logic_meaning.specs.Reference.{stands_among}
+use Rattle.logic_meaning.specs.declared.form.VarId.{VarId}
 
 -- ---- lists
 

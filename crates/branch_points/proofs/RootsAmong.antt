@@ -2,21 +2,21 @@
 use Rattle.std.proofs.Common.{◌≡◌, ℕ, zero, suc, ◌+◌, ◌<◌, ◌≤◌, Option, Some, None, List, [], ◌∷◌, map, length, get_or, take, drop, refl, ap, sym, ◌∙◌, subst, arith}
 use Rattle.std.proofs.lemmas.List.{take_all}
 use Rattle.std.proofs.Math.IntN.{ℤ, pos, negsuc}
-use Rattle.formula_meaning.specs.Formula.{Yes, No, One, Not, And, Or, Impl, Repl, Equiv, Ex, All, none, also}
-use Rattle.formula_meaning.specs.Fold.{append}
-use Rattle.formula_meaning.specs.Form.{Form, coefficient, without}
-use Rattle.formula_meaning.specs.Atom.{Compare, Equals}
-use Rattle.formula_meaning.specs.Answer.{Place}
-use Rattle.formula_meaning.specs.Some.{Among}
-use Rattle.formula_meaning.specs.Tree.{Tree, Trees}
-use Rattle.linear_forms.specs.declared.form.VarId.{VarId}
-use Rattle.atom_normal.specs.declared.atoms.Context.{Context}
-use Rattle.atom_normal.specs.Atoms.{context_of}
+use Rattle.logic_meaning.specs.Formula.{Yes, No, One, Not, And, Or, Impl, Repl, Equiv, Ex, All, none, also}
+use Rattle.logic_meaning.specs.Fold.{append}
+use Rattle.logic_meaning.specs.Form.{Form, coefficient, without}
+use Rattle.logic_meaning.specs.Atom.{Compare, Equals}
+use Rattle.logic_meaning.specs.Answer.{Place}
+use Rattle.logic_meaning.specs.Some.{Among}
+use Rattle.logic_meaning.specs.Tree.{Tree, Trees}
+use Rattle.logic_meaning.specs.declared.form.VarId.{VarId}
+use Rattle.normal_atoms.specs.declared.atoms.Context.{Context}
+use Rattle.normal_atoms.specs.Atoms.{context_of}
 use Rattle.formula_tree.specs.Trees.{members}
 use Rattle.test_points.specs.declared.points.TestPoint.{TestPoint}
 use Rattle.test_points.specs.Points.{place_of, IsPointOf}
-use Rattle.case_theory.specs.Roots.{IsRootOf, IsRoot}
-use Rattle.case_theory.specs.Direct.{equation_of, first_of_two, first_equation}
+use Rattle.logic_meaning.specs.Roots.{IsRootOf, IsRoot}
+use Rattle.logic_meaning.specs.Direct.{equation_of, first_of_two, first_equation}
 use Rattle.branch_points.specs.Chosen.{HasNoEquation, IsRootAmong}
 use Rattle.branch_points.proofs.FirstEquations.{other_some}
 

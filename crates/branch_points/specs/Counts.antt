@@ -1,20 +1,20 @@
 -- How many test points a name has on a side.
 use Rattle.std.specs.Prelude.{◌≡◌, ◌⊎◌, ◌+◌, ◌<◌, ◌≤◌, ◌^◌, ℕ, pos, false, List, Option, MatchOption, count_by}
 use Rattle.exact_numbers.specs.Limit.{PastLimit}
-use Rattle.formula_meaning.specs.Context as meaning
-use Rattle.formula_meaning.specs.Some.{SomeOf, EachOf}
-use Rattle.formula_meaning.specs.Limits.{each, place_within}
-use Rattle.formula_meaning.specs.Atom.{Atom}
-use Rattle.elimination_theory.specs.declared.side.Side.{Side}
-use Rattle.elimination_theory.specs.IntegersPoints.{own_span, integer_count_of, integer_points_of}
-use Rattle.linear_forms.specs.declared.form.VarId.{VarId}
-use Rattle.atom_normal.specs.declared.atoms.Context.{Context}
-use Rattle.atom_normal.specs.declared.atoms.Context.TheVariants as theory
-use Rattle.atom_normal.specs.Atoms.{context_of}
+use Rattle.logic_meaning.specs.Context as meaning
+use Rattle.logic_meaning.specs.Some.{SomeOf, EachOf}
+use Rattle.logic_meaning.specs.Limits.{each, place_within}
+use Rattle.logic_meaning.specs.Atom.{Atom}
+use Rattle.logic_meaning.specs.declared.side.Side.{Side}
+use Rattle.logic_meaning.specs.IntegersPoints.{own_span, integer_count_of, integer_points_of}
+use Rattle.logic_meaning.specs.declared.form.VarId.{VarId}
+use Rattle.normal_atoms.specs.declared.atoms.Context.{Context}
+use Rattle.normal_atoms.specs.declared.atoms.Context.TheVariants as theory
+use Rattle.normal_atoms.specs.Atoms.{context_of}
 use Rattle.test_points.specs.declared.error.PointError.{PointError}
 use Rattle.test_points.specs.declared.error.PointError.TheVariants as point
-use Rattle.cooper_periods.specs.Periods.{IsPeriodOf}
-use Rattle.cooper_periods.specs.Starts.{has_end}
+use Rattle.test_points.specs.Periods.{IsPeriodOf}
+use Rattle.test_points.specs.Starts.{has_end}
 use Rattle.branch_points.specs.declared.counts.Candidate.{Candidate}
 use Rattle.branch_points.specs.declared.error.ChoiceError.{ChoiceError}
 use Rattle.branch_points.specs.declared.error.ChoiceError.TheVariants as choice

@@ -1,12 +1,12 @@
 -- How many ends the names of some atoms have on each side, by the numbers of the names.
 use Rattle.std.specs.Prelude.{◌≡◌, ◌+◌, ◌<◌, ℕ, ℤ, pos, Bool, true, false, List, length, count_by, nat_lt, Option, Some, None, is_some, if◌then◌else◌, ◌^◌}
 use Rattle.std.specs.Ordering.{int_eq}
-use Rattle.formula_meaning.specs.Atom.{Atom, Compare, Congruent}
-use Rattle.elimination_theory.specs.declared.side.Side.{Side}
-use Rattle.elimination_theory.specs.declared.side.Side.TheVariants.{Lower, Upper}
-use Rattle.elimination_theory.specs.IntegersPoints.{comparison_starts}
-use Rattle.test_points.specs.FromEliminationReference.{stands_among}
-use Rattle.cooper_periods.specs.Starts.{has_end}
+use Rattle.logic_meaning.specs.Atom.{Atom, Compare, Congruent}
+use Rattle.logic_meaning.specs.declared.side.Side.{Side}
+use Rattle.logic_meaning.specs.declared.side.Side.TheVariants.{Lower, Upper}
+use Rattle.logic_meaning.specs.IntegersPoints.{comparison_starts}
+use Rattle.logic_meaning.specs.Reference.{stands_among}
+use Rattle.test_points.specs.Starts.{has_end}
 use Rattle.branch_points.specs.declared.ends.Ends.{Ends}
 
 -- 1 for true, 0 for false

@@ -2,12 +2,13 @@
 
 ghost use Rattle.std.specs.Prelude.{◌≡◌, true, false, nat_eq, is_some, MatchOption};
 ghost use Rattle.std.specs.HashMap.{get};
-ghost use Rattle.formula_meaning.specs.Some.{Among, EachOf};
-ghost use Rattle.elimination_theory.specs.Answers.{zero_place};
+ghost use Rattle.logic_meaning.specs.Some.{Among, EachOf};
+ghost use Rattle.logic_meaning.specs.Answers.{zero_place};
 ghost use Rattle.test_points.specs.Points.{place_of, IsPointOf};
 
 use crate::ends::{Table, stands};
-use linear_forms::{Linear, VarId};
+use linear_forms::Linear;
+use logic_meaning::VarId;
 use std::alloc::Global;
 use test_points::{Place, TestPoint};
 

@@ -5,9 +5,9 @@ ghost use Rattle.std.specs.List.{AllByRecursion};
 ghost use Rattle.formula_store.specs.Nodes.{tree, IsId};
 ghost use Rattle.branch_points.specs.Chosen.{AreAtomsOf, shape_atoms, listed_atoms};
 
-use atom_normal::Atom;
 use formula_store::{FormulaId, Store, StoreError};
 use formula_tree::Shape;
+use normal_atoms::Atom;
 use std::alloc::{AllocError, Global};
 
 /// The distinct subformulas of the formula: among them each of its atoms stands once.

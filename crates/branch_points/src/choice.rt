@@ -1,6 +1,6 @@
 //! A name and its test points.
 
-use linear_forms::VarId;
+use logic_meaning::VarId;
 use test_points::TestPoint;
 
 /// A name of a branch, and the test points that are to be put for it.

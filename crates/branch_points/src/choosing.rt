@@ -3,9 +3,9 @@
 ghost use Rattle.std.specs.Prelude.{◌≡◌, ◌<◌, ◌≤◌, [], ◌∷◌, nat_eq, map, max, length, All, IfOk, IfErr, IsErrOf};
 ghost use Rattle.std.specs.HashMap.{get};
 ghost use Rattle.std.specs.List.{AllByRecursion};
-ghost use Rattle.formula_meaning.specs.StandsOnce.{StandsOnce};
-ghost use Rattle.test_points.specs.FromEliminationReference.{IsTidy};
-ghost use Rattle.atom_normal.specs.Atoms.{atom_of, context_of, IsWellFormed};
+ghost use Rattle.formula_laws.specs.StandsOnce.{StandsOnce};
+ghost use Rattle.elimination_theory.specs.Theorems.{IsTidy};
+ghost use Rattle.normal_atoms.specs.Atoms.{atom_of, context_of, IsWellFormed};
 ghost use Rattle.formula_store.specs.Nodes.{tree, IsId};
 ghost use Rattle.branch_points.specs.Chosen.{IsChosen, IsByRule, IsOnSide, NeedsCounting, InSomeOrder, listed_atoms};
 ghost use Rattle.branch_points.specs.Counts.{EachHasMore, NumbersPass};
@@ -19,9 +19,9 @@ use crate::ends::{Table, ends_of};
 use crate::equations::conjoined_root;
 use crate::error::ChoiceError;
 use crate::fields::over_fields;
-use atom_normal::{Atom, Context};
 use formula_store::{FormulaId, Store};
-use linear_forms::VarId;
+use logic_meaning::VarId;
+use normal_atoms::{Atom, Context};
 use std::alloc::{AllocError, Global};
 use test_points::TestPoint;
 

@@ -1,22 +1,21 @@
 //! Over the integers: how many test points a name has on a side, and the name and the side with the fewest.
 
 ghost use Rattle.std.specs.Prelude.{◌≡◌, ◌⊎◌, ◌<◌, ◌≤◌, ℕ, false, map, All, MatchOption, IfOk, IfSome, IsErrOf, IsTrue, Some};
-ghost use Rattle.formula_meaning.specs.Some.{Among, EachOf};
-ghost use Rattle.formula_meaning.specs.Limits.{each, place_within};
-ghost use Rattle.formula_meaning.specs.StandsOnce.{StandsOnce};
-ghost use Rattle.formula_meaning.specs.Context as meaning;
-ghost use Rattle.elimination_theory.specs.IntegersPoints.{integer_points_of, integer_count_of};
-ghost use Rattle.atom_normal.specs.Atoms.{atom_of, IsWellFormed};
+ghost use Rattle.logic_meaning.specs.Some.{Among, EachOf};
+ghost use Rattle.logic_meaning.specs.Limits.{each, place_within};
+ghost use Rattle.formula_laws.specs.StandsOnce.{StandsOnce};
+ghost use Rattle.logic_meaning.specs.Context as meaning;
+ghost use Rattle.logic_meaning.specs.IntegersPoints.{integer_points_of, integer_count_of};
+ghost use Rattle.normal_atoms.specs.Atoms.{atom_of, IsWellFormed};
 ghost use Rattle.test_points.specs.Points.{place_of, IsPointOf};
-ghost use Rattle.cooper_periods.specs.Periods.{IsPeriodOf};
+ghost use Rattle.test_points.specs.Periods.{IsPeriodOf};
 ghost use Rattle.branch_points.specs.Counts.{SpanPasses, IsCount, IsCandidate, CountsAtMost, HasAtMost, IsBeaten};
 
 use crate::error::ChoiceError;
-use atom_normal::{Atom, Context};
-use cooper_periods::{Period, integer_points, period, points_count};
-use linear_forms::VarId;
+use logic_meaning::{Side, VarId};
+use normal_atoms::{Atom, Context};
 use std::alloc::Global;
-use test_points::{Side, TestPoint};
+use test_points::{Period, TestPoint, integer_points, period, points_count};
 
 /// A name and a side, the scale and the span of the name, and how many points are formed there, or `None` for more than `u64::MAX`.
 #[derive(Clone, Copy)]

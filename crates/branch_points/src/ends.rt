@@ -3,21 +3,22 @@
 ghost use Rattle.std.specs.Prelude.{◌≡◌, ◌+◌, ◌<◌, ◌^◌, ◌++◌, List, ℕ, nat_eq, is_some, map, IfOk, OnOk, IsTrue, IsSome, ◌↔◌};
 ghost use Rattle.std.specs.HashMap.{get};
 ghost use Rattle.std.specs.List.{AllByRecursion};
-ghost use Rattle.formula_meaning.specs.Form.{coefficient};
-ghost use Rattle.formula_meaning.specs.Atom.{form_of, Atom as Meant};
-ghost use Rattle.atom_normal.specs.Atoms.{atom_of, relation_of};
+ghost use Rattle.logic_meaning.specs.Form.{coefficient};
+ghost use Rattle.logic_meaning.specs.Atom.{form_of, Atom as Meant};
+ghost use Rattle.normal_atoms.specs.Atoms.{atom_of, relation_of};
 ghost use Rattle.formula_store.specs.Nodes.{IsId};
-ghost use Rattle.cooper_periods.specs.Starts.{first_step};
+ghost use Rattle.test_points.specs.Starts.{first_step};
 ghost use Rattle.branch_points.specs.Chosen.{shape_atoms, listed_atoms};
 ghost use Rattle.branch_points.specs.Ends.{once, ends_with, ends_or_none, towards, AreEnds, HaveMore, HaveTerm, HasRoom};
 
-use atom_normal::{Atom, Rel};
 use formula_store::{FormulaId, Store};
 use formula_tree::Shape;
-use linear_forms::{Linear, VarId};
+use linear_forms::Linear;
+use logic_meaning::{Side, VarId};
+use normal_atoms::{Atom, Rel};
 use std::alloc::{AllocError, Global};
 use std::collections::HashMap;
-use test_points::{Side, seen};
+use test_points::seen;
 
 /// How many atoms have an end of a name on each side.
 #[derive(Clone, Copy)]

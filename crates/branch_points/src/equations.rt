@@ -2,18 +2,19 @@
 
 ghost use Rattle.std.specs.Prelude.{◌≡◌, pos, map, MatchOption, IfOk};
 ghost use Rattle.std.specs.List.{AllByRecursion};
-ghost use Rattle.formula_meaning.specs.Some.{Among, EachOf};
-ghost use Rattle.formula_meaning.specs.Form.{Form, coefficient};
-ghost use Rattle.formula_meaning.specs.Formula.{none, also};
+ghost use Rattle.logic_meaning.specs.Some.{Among, EachOf};
+ghost use Rattle.logic_meaning.specs.Form.{Form, coefficient};
+ghost use Rattle.logic_meaning.specs.Formula.{none, also};
 ghost use Rattle.formula_tree.specs.Trees.{members};
 ghost use Rattle.formula_store.specs.Nodes.{tree, IsId};
 ghost use Rattle.branch_points.specs.Chosen.{conjuncts, HasNoEquation, IsRootAmong};
 
 use crate::roots::root_of;
-use atom_normal::{Atom, Context, Rel};
 use formula_store::{FormulaId, Store};
 use formula_tree::Shape;
-use linear_forms::{Linear, VarId};
+use linear_forms::Linear;
+use logic_meaning::VarId;
+use normal_atoms::{Atom, Context, Rel};
 use std::alloc::{AllocError, Global};
 use test_points::TestPoint;
 

@@ -3,11 +3,11 @@
 ghost use Rattle.std.specs.Prelude.{◌≡◌, ◌<◌, ◌≤◌, ◌++◌, pos, nat_eq, map, flat_map, length, All, IfOk, IfErr, OnOk, IsErrOf, IsTrue};
 ghost use Rattle.std.specs.List.{AllByRecursion};
 ghost use Rattle.std.specs.HashMap.{get};
-ghost use Rattle.formula_meaning.specs.Some.{Among, EachOf};
-ghost use Rattle.formula_meaning.specs.Form.{coefficient};
-ghost use Rattle.formula_meaning.specs.Atom.{form_of};
-ghost use Rattle.elimination_theory.specs.FieldsPoints.{atom_points};
-ghost use Rattle.atom_normal.specs.Atoms.{atom_of};
+ghost use Rattle.logic_meaning.specs.Some.{Among, EachOf};
+ghost use Rattle.logic_meaning.specs.Form.{coefficient};
+ghost use Rattle.logic_meaning.specs.Atom.{form_of};
+ghost use Rattle.logic_meaning.specs.FieldsPoints.{atom_points};
+ghost use Rattle.normal_atoms.specs.Atoms.{atom_of};
 ghost use Rattle.formula_store.specs.Nodes.{IsId};
 ghost use Rattle.branch_points.specs.Chosen.{IsOnSide, listed_atoms, shape_atoms};
 ghost use Rattle.branch_points.specs.Counts.{EachHasMore};
@@ -16,12 +16,12 @@ ghost use Rattle.branch_points.specs.Ends.{AreEnds, end_count};
 use crate::choice::Chosen;
 use crate::ends::{Table, ends_in};
 use crate::error::ChoiceError;
-use atom_normal::{Atom, Context};
 use formula_store::{FormulaId, Store};
 use formula_tree::Shape;
-use linear_forms::VarId;
+use logic_meaning::{Side, VarId};
+use normal_atoms::{Atom, Context};
 use std::alloc::{AllocError, Global};
-use test_points::{Side, field_points};
+use test_points::field_points;
 
 /// A name and a side, and how many ends lie there. There is one point more, the infinity of the side.
 #[derive(Clone, Copy)]

@@ -14,5 +14,4 @@ mod roots;
 
 pub use choice::Chosen;
 pub use choosing::chosen;
-pub use cooper_periods::guard;
 pub use error::ChoiceError;

@@ -4,16 +4,17 @@ ghost use Rattle.std.specs.Prelude.{◌≡◌, pos, ◌<ℤ◌, ◌∷◌, unsig
 ghost use Rattle.exact_numbers.specs.Limit.{InLimit};
 ghost use Rattle.exact_numbers.specs.Divides.{Divides};
 ghost use Rattle.exact_numbers.specs.Division.{DividesAll};
-ghost use Rattle.formula_meaning.specs.Form.{coefficient, coefficients};
-ghost use Rattle.formula_meaning.specs.Answer as meaning;
-ghost use Rattle.elimination_theory.specs.FieldsPoints.{divisor_of, exact_point};
-ghost use Rattle.atom_normal.specs.Atoms.{context_of};
+ghost use Rattle.logic_meaning.specs.Form.{coefficient, coefficients};
+ghost use Rattle.logic_meaning.specs.Answer as meaning;
+ghost use Rattle.logic_meaning.specs.FieldsPoints.{divisor_of, exact_point};
+ghost use Rattle.normal_atoms.specs.Atoms.{context_of};
 ghost use Rattle.test_points.specs.Points.{place_of, IsPointOf};
-ghost use Rattle.case_theory.specs.Roots.{root_over, IsRoot};
+ghost use Rattle.logic_meaning.specs.Roots.{root_over, IsRoot};
 
-use atom_normal::Context;
 use exact_numbers::gcd;
-use linear_forms::{Linear, VarId};
+use linear_forms::Linear;
+use logic_meaning::VarId;
+use normal_atoms::Context;
 use std::alloc::{AllocError, Global};
 use test_points::{Place, TestPoint, quotient, rest};
 

@@ -1,14 +1,14 @@
 -- The truth of lists that are cut member by member.
 use Rattle.std.proofs.Common.{◌≡◌, ℕ, ◌≤◌, Bool, true, false, List, [], ◌∷◌, ◌++◌, get_or, map, inl, inr, ⊎_elim, ◌↔◌, refl, sym, subst, arith}
 use Rattle.std.proofs.lemmas.Int.{ints}
-use Rattle.formula_meaning.specs.Context.{Context}
-use Rattle.formula_meaning.specs.Point.{Point, Of}
-use Rattle.formula_meaning.specs.Form.{value}
-use Rattle.formula_meaning.specs.Formula.{Yes, No, One, And, Or}
-use Rattle.formula_meaning.specs.Plain.{IsAtomic}
-use Rattle.formula_meaning.specs.Sizes.{nodes, all_nodes}
-use Rattle.formula_meaning.specs.Atom.{Atom, Says}
-use Rattle.formula_meaning.specs.Tree.{Tree, TrueAt}
+use Rattle.logic_meaning.specs.Context.{Context}
+use Rattle.logic_meaning.specs.Point.{Point, Of}
+use Rattle.logic_meaning.specs.Form.{value}
+use Rattle.logic_meaning.specs.Formula.{Yes, No, One, And, Or}
+use Rattle.logic_meaning.specs.Plain.{IsAtomic}
+use Rattle.logic_meaning.specs.Sizes.{nodes, all_nodes}
+use Rattle.logic_meaning.specs.Atom.{Atom, Says}
+use Rattle.logic_meaning.specs.Tree.{Tree, TrueAt}
 use Rattle.formula_tree.specs.Trees.{members}
 use Rattle.case_theory.proofs.Under.{under_then}
 use Rattle.atom_pruning.specs.declared.rows.AtomRows.{AtomRows}

@@ -1,20 +1,20 @@
 -- What a cut formula has of the formula that it was.
 use Rattle.std.proofs.Common.{ℕ, ◌≤◌, ◌<◌, true, false, List, length, inl, inr, ⊎_elim, arith}
-use Rattle.formula_meaning.specs.Context.{Context}
-use Rattle.formula_meaning.specs.Formula.{Yes, No, One, Not, And, Or, Impl, Repl, Equiv, Ex, All, none, also}
-use Rattle.formula_meaning.specs.declared.junction.Junction.{Junction}
-use Rattle.formula_meaning.specs.declared.junction.Junction.TheVariants.{Conjunction, Disjunction}
-use Rattle.formula_meaning.specs.Every.{FreeInSome}
-use Rattle.formula_meaning.specs.Members.{AreTwo}
-use Rattle.formula_meaning.specs.Shape.{IsQuantifierFree, AreQuantifierFree}
-use Rattle.formula_meaning.specs.Sizes.{nodes, all_nodes}
-use Rattle.formula_meaning.specs.Some.{EachOf}
-use Rattle.formula_meaning.specs.Atom.{Atom, Mentions}
-use Rattle.formula_meaning.specs.Tree.{Tree, Trees, IsFree}
-use Rattle.simplified_formulas.specs.Measure.{as_member, size, members_size, more_size}
-use Rattle.simplified_formulas.specs.Orderly.{IsOrderly, AreOrderly}
-use Rattle.theory_simplifier.specs.FromSimplifiedTexts.{text_measure}
-use Rattle.theory_simplifier.proofs.FromSimplifiedTexts.{IsWritten, constant_width}
+use Rattle.logic_meaning.specs.Context.{Context}
+use Rattle.logic_meaning.specs.Formula.{Yes, No, One, Not, And, Or, Impl, Repl, Equiv, Ex, All, none, also}
+use Rattle.logic_meaning.specs.declared.junction.Junction.{Junction}
+use Rattle.logic_meaning.specs.declared.junction.Junction.TheVariants.{Conjunction, Disjunction}
+use Rattle.logic_meaning.specs.Every.{FreeInSome}
+use Rattle.logic_meaning.specs.Members.{AreTwo}
+use Rattle.logic_meaning.specs.Shape.{IsQuantifierFree, AreQuantifierFree}
+use Rattle.logic_meaning.specs.Sizes.{nodes, all_nodes}
+use Rattle.logic_meaning.specs.Some.{EachOf}
+use Rattle.logic_meaning.specs.Atom.{Atom, Mentions}
+use Rattle.logic_meaning.specs.Tree.{Tree, Trees, IsFree}
+use Rattle.logic_meaning.specs.Measure.{as_member, size, members_size, more_size}
+use Rattle.shape_theory.specs.Orderly.{IsOrderly, AreOrderly}
+use Rattle.shape_theory.specs.Texts.{text_measure}
+use Rattle.shape_theory.proofs.Longer.{IsWritten, constant_width}
 use Rattle.branch_pruning.specs.Cuts.{IsCut, AreCut, stays, goes, fails, never, conjunction, disjunction, no_member, one_more}
 
 mutual

@@ -1,30 +1,31 @@
 -- A formula simplified, and one that is cut and simplified again.
 use Rattle.std.proofs.Common.{◌≡◌, ℕ, ◌≤◌, ◌<◌, List, length, sym, subst, arith}
-use Rattle.formula_meaning.specs.Context.{Context}
-use Rattle.formula_meaning.specs.Formula.{Yes, No, One, Not, And, Or, Impl, Repl, Equiv, Ex, All, none, also}
-use Rattle.formula_meaning.specs.Every.{Every, EveryOf}
-use Rattle.formula_meaning.specs.Some.{EachOf}
-use Rattle.formula_meaning.specs.Atom.{Atom, Mentions, Compare, Congruent, form_of}
-use Rattle.formula_meaning.specs.Numbers.{IsAtomInLimit}
-use Rattle.formula_meaning.proofs.EachAtom.{every_map}
+use Rattle.logic_meaning.specs.Context.{Context}
+use Rattle.logic_meaning.specs.Formula.{Yes, No, One, Not, And, Or, Impl, Repl, Equiv, Ex, All, none, also}
+use Rattle.logic_meaning.specs.Every.{Every, EveryOf}
+use Rattle.logic_meaning.specs.Some.{EachOf}
+use Rattle.logic_meaning.specs.Atom.{Atom, Mentions, Compare, Congruent, form_of}
+use Rattle.logic_meaning.specs.Numbers.{IsAtomInLimit}
+use Rattle.formula_laws.proofs.EachAtom.{every_map}
 use Rattle.exact_numbers.specs.Limit.{InLimit}
 use Rattle.formula_store.proofs.Numbers.{numbers_are_within}
 use Rattle.case_theory.specs.Simplified.{HasConstantsWithin}
-use Rattle.formula_meaning.specs.Tree.{Tree, Trees}
-use Rattle.formula_meaning.specs.Within.{IsAtomWithin}
-use Rattle.simplified_formulas.specs.FromAtomMerging.{IsNormalWithin}
-use Rattle.theory_simplifier.specs.FromRedlogPrinter.{tree_text}
-use Rattle.simplified_formulas.specs.AtomKit.{atom_kit}
-use Rattle.simplified_formulas.specs.Orderly.{IsOrderly, AreOrderly}
-use Rattle.simplified_formulas.specs.Trees.{IsReduced}
-use Rattle.simplified_formulas.specs.Simplifiable.{IsSimplifiable, AreAssumable, EquivalentUnder, simplified_under}
-use Rattle.simplified_formulas.proofs.AtomLaws.{merges_within, names_told}
-use Rattle.simplified_formulas.proofs.Keeps.{MergesWithin}
-use Rattle.simplified_formulas.proofs.Simplified.{simplified_within}
-use Rattle.simplified_formulas.proofs.TreeLaws.{keeps_truth, keeps_shape, brings_no_name, brings_no_node, brings_no_quantifier, is_reduced}
-use Rattle.theory_simplifier.specs.FromSimplifiedTexts.{IsNoLarger}
-use Rattle.theory_simplifier.proofs.FromSimplifiedTexts.{IsWritten, comes, orderly_both, no_longer, text_is}
-use Rattle.case_theory.specs.FromEliminationReference.{IsTidy}
+use Rattle.logic_meaning.specs.Tree.{Tree, Trees}
+use Rattle.formula_laws.specs.Within.{IsAtomWithin}
+use Rattle.normal_atoms.specs.Computed.{IsNormalWithin}
+use Rattle.logic_meaning.specs.Text.{tree_text}
+use Rattle.shape_theory.specs.AtomKit.{atom_kit}
+use Rattle.shape_theory.specs.Orderly.{IsOrderly, AreOrderly}
+use Rattle.logic_meaning.specs.Trees.{IsReduced}
+use Rattle.shape_theory.specs.Simplifiable.{IsSimplifiable, AreAssumable, EquivalentUnder, simplified_under}
+use Rattle.shape_theory.proofs.AtomLaws.{merges_within, names_told}
+use Rattle.shape_theory.proofs.Keeps.{MergesWithin}
+use Rattle.shape_theory.proofs.Simplified.{simplified_within}
+use Rattle.shape_theory.proofs.TreeLaws.{keeps_truth, keeps_shape, brings_no_name, brings_no_node, brings_no_quantifier, is_reduced}
+use Rattle.shape_theory.specs.Texts.{IsNoLarger}
+use Rattle.shape_theory.proofs.Longer.{IsWritten, comes, orderly_both, no_longer}
+use Rattle.shape_theory.proofs.Measured.{text_is}
+use Rattle.elimination_theory.specs.Theorems.{IsTidy}
 use Rattle.formula_tree.specs.declared.shape.Shape.{Shape}
 use Rattle.formula_store.specs.declared.id.FormulaId.{FormulaId}
 use Rattle.formula_store.specs.Nodes.{tree, IsId}
@@ -32,7 +33,7 @@ use Rattle.case_theory.specs.Worked.{IsWorked}
 use Rattle.case_theory.proofs.Simplified.{tidy_simplifiable, simplifying_works, reduced_tidy, plain_free}
 use Rattle.case_theory.proofs.Under.{under_turn, under_then}
 use Rattle.branch_pruning.specs.Pruned.{IsPrunedTo}
-use Rattle.atom_normal.specs.NormalForm.{IsNormal}
+use Rattle.logic_meaning.specs.NormalForm.{IsNormal}
 use Rattle.formula_tree.specs.Makers.{IsMade}
 use Rattle.theory_simplifier.proofs.Assuming.{orderly_normal}
 use Rattle.atom_pruning.specs.declared.rows.AtomRows.{AtomRows}

@@ -3,9 +3,9 @@ use Rattle.std.proofs.Common.{◌≡◌, List, sym, subst, ◌∙◌, arith}
 use Rattle.std.specs.Prelude.{OnOk}
 use Rattle.std.specs.declared.result.Result.{Result}
 use Rattle.std.specs.declared.result.Result.TheVariants.{Ok, Err}
-use Rattle.formula_meaning.specs.Context.{Context}
-use Rattle.formula_meaning.specs.Tree.{Tree}
-use Rattle.atom_normal.specs.Atoms.{context_of}
+use Rattle.logic_meaning.specs.Context.{Context}
+use Rattle.logic_meaning.specs.Tree.{Tree}
+use Rattle.normal_atoms.specs.Atoms.{context_of}
 use Rattle.formula_tree.specs.declared.shape.Shape.{Shape}
 use Rattle.formula_tree.specs.Makers.{IsMade}
 use Rattle.formula_store.specs.declared.id.FormulaId.{FormulaId}

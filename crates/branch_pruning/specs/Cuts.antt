@@ -1,13 +1,13 @@
 -- A formula in which constants stand for some atoms and some conjunctions, and when it keeps its truth under assumptions.
 use Rattle.std.specs.Prelude.{◌≡◌, ◌⊎◌, Bool, false, ℕ, pos, ◌≤◌, List, [], ◌∷◌, map}
 use Rattle.std.specs.List.{AllByRecursion}
-use Rattle.formula_meaning.specs.Context.{Context}
-use Rattle.formula_meaning.specs.Point.{Point, Of}
-use Rattle.formula_meaning.specs.Formula.{Yes, No, One, And, Or, none, also}
-use Rattle.formula_meaning.specs.Plain.{IsAtomic}
-use Rattle.formula_meaning.specs.Atom.{Atom, Compare, Equals}
-use Rattle.formula_meaning.specs.Tree.{Tree, Trees}
-use Rattle.simplified_formulas.specs.Simplifiable.{EquivalentUnder}
+use Rattle.logic_meaning.specs.Context.{Context}
+use Rattle.logic_meaning.specs.Point.{Point, Of}
+use Rattle.logic_meaning.specs.Formula.{Yes, No, One, And, Or, none, also}
+use Rattle.logic_meaning.specs.Plain.{IsAtomic}
+use Rattle.logic_meaning.specs.Atom.{Atom, Compare, Equals}
+use Rattle.logic_meaning.specs.Tree.{Tree, Trees}
+use Rattle.shape_theory.specs.Simplifiable.{EquivalentUnder}
 use Rattle.formula_tree.specs.declared.shape.Shape.{Shape}
 use Rattle.formula_store.specs.declared.id.FormulaId.{FormulaId}
 use Rattle.formula_store.specs.Nodes.{tree, IsId}

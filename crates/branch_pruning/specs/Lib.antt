@@ -2,4 +2,3 @@ pub mod Pruned
 pub mod Cuts
 pub mod Compared
 pub mod FromAtomPruning
-pub mod FromSimplifiedTexts

@@ -1,8 +1,8 @@
 //! Which conjunction of atoms implies which, under assumptions.
 
 ghost use Rattle.std.specs.Prelude.{◌≡◌, ◌≤◌, ◌<◌, IfOk, OnOk, IsTrue, IsSomeAnd, List, length, ◌∷◌, []};
-ghost use Rattle.formula_meaning.specs.Context.{Context as Theory};
-ghost use Rattle.formula_meaning.specs.Atom.{Atom as Meant};
+ghost use Rattle.logic_meaning.specs.Context.{Context as Theory};
+ghost use Rattle.logic_meaning.specs.Atom.{Atom as Meant};
 ghost use Rattle.atom_pruning.specs.Rows.{AreRows};
 ghost use Rattle.atom_pruning.specs.Kept.{Imply};
 ghost use Rattle.branch_pruning.specs.Compared.{Implies, IsCovered};

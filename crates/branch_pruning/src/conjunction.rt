@@ -2,18 +2,18 @@
 
 ghost use Rattle.std.specs.Prelude.{IfOk, IfSome, IsTrue, map, ◌∷◌, []};
 ghost use Rattle.std.specs.List.{AllByRecursion, Contains};
-ghost use Rattle.formula_meaning.specs.Formula.{And};
-ghost use Rattle.atom_normal.specs.Atoms.{context_of};
+ghost use Rattle.logic_meaning.specs.Formula.{And};
+ghost use Rattle.normal_atoms.specs.Atoms.{context_of};
 ghost use Rattle.formula_tree.specs.Trees.{members};
 ghost use Rattle.formula_store.specs.Nodes.{tree, IsId};
 ghost use Rattle.branch_pruning.specs.Compared.{atoms_of, SaysAll, IsConjunctionOf};
 
 use crate::members::listed;
 use crate::rows::rows_of_each;
-use atom_normal::Context;
 use atom_pruning::AtomRows;
 use formula_store::{FormulaId, Store};
 use formula_tree::Shape;
+use normal_atoms::Context;
 use std::alloc::{AllocError, Global};
 
 /// The atoms of a conjunction, and the rows of each.

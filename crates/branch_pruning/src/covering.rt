@@ -2,8 +2,8 @@
 
 ghost use Rattle.std.specs.Prelude.{◌≤◌, IfOk, map};
 ghost use Rattle.std.specs.List.{AllByRecursion};
-ghost use Rattle.formula_meaning.specs.Some.{EachOf};
-ghost use Rattle.atom_normal.specs.Atoms.{context_of, atom_of, IsWellFormed};
+ghost use Rattle.logic_meaning.specs.Some.{EachOf};
+ghost use Rattle.normal_atoms.specs.Atoms.{context_of, atom_of, IsWellFormed};
 ghost use Rattle.formula_store.specs.Nodes.{tree, IsId};
 ghost use Rattle.branch_pruning.specs.Pruned.{AreCovering};
 ghost use Rattle.branch_pruning.specs.Compared.{AreConjunctionsOf};
@@ -12,8 +12,8 @@ use crate::comparing::Comparer;
 use crate::conjunction::Conjunction;
 use crate::numbered::Numbered;
 use crate::rows::rows_of_atoms;
-use atom_normal::{Atom, Context};
 use formula_store::{FormulaId, Store};
+use normal_atoms::{Atom, Context};
 use std::alloc::{AllocError, Global};
 
 // More formulas are not compared, since each is with each.

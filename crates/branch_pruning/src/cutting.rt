@@ -2,10 +2,10 @@
 
 ghost use Rattle.std.specs.Prelude.{◌≡◌, ◌≤◌, List, IfOk, OnOk, length, map, vec_len, ◌++◌};
 ghost use Rattle.std.specs.List.{AllByRecursion};
-ghost use Rattle.formula_meaning.specs.Context.{Context as Theory};
-ghost use Rattle.formula_meaning.specs.Atom.{Atom as Meant};
-ghost use Rattle.formula_meaning.specs.Formula.{And, Or};
-ghost use Rattle.atom_normal.specs.Atoms.{context_of, atom_of, IsWellFormed};
+ghost use Rattle.logic_meaning.specs.Context.{Context as Theory};
+ghost use Rattle.logic_meaning.specs.Atom.{Atom as Meant};
+ghost use Rattle.logic_meaning.specs.Formula.{And, Or};
+ghost use Rattle.normal_atoms.specs.Atoms.{context_of, atom_of, IsWellFormed};
 ghost use Rattle.formula_tree.specs.Makers.{Keeps};
 ghost use Rattle.formula_tree.specs.Trees.{members};
 ghost use Rattle.formula_store.specs.Nodes.{tree, IsId};
@@ -16,10 +16,10 @@ ghost use Rattle.branch_pruning.specs.Cuts.{AreOfAtoms, IsCutTo, IsInsideCutTo, 
 
 use crate::members::{listed, without_implied};
 use crate::rows::rows_of_each;
-use atom_normal::Context;
 use atom_pruning::{AtomRows, Pruned, kept, may_be_pruned};
 use formula_store::{FormulaId, Store};
 use formula_tree::{Ids, Maker, Shape};
+use normal_atoms::Context;
 use std::alloc::{AllocError, Global};
 
 // Fewer atoms than these, simplifying has compared with each other.

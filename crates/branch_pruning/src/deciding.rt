@@ -1,16 +1,16 @@
 //! An atom that the assumptions decide.
 
 ghost use Rattle.std.specs.Prelude.{IfOk, OnOk};
-ghost use Rattle.atom_normal.specs.Atoms.{context_of};
+ghost use Rattle.normal_atoms.specs.Atoms.{context_of};
 ghost use Rattle.formula_tree.specs.Makers.{Keeps};
 ghost use Rattle.formula_store.specs.Nodes.{tree, IsId};
 ghost use Rattle.branch_pruning.specs.Cuts.{AreOfAtoms, IsDecidedTo, IsIn, StaysAt};
 
 use crate::cutting::Cutter;
-use atom_normal::Atom;
 use atom_pruning::{AtomRows, Pruned, may_be_decided};
 use formula_store::{FormulaId, Store};
 use formula_tree::{Maker, Shape};
+use normal_atoms::Atom;
 use std::alloc::AllocError;
 use std::slice;
 

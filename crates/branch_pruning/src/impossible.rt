@@ -2,15 +2,15 @@
 
 ghost use Rattle.std.specs.Prelude.{◌≤◌, IfOk, IsTrue, map};
 ghost use Rattle.std.specs.List.{AllByRecursion};
-ghost use Rattle.atom_normal.specs.Atoms.{context_of, atom_of, IsWellFormed};
+ghost use Rattle.normal_atoms.specs.Atoms.{context_of, atom_of, IsWellFormed};
 ghost use Rattle.formula_store.specs.Nodes.{tree, IsId};
 ghost use Rattle.case_theory.specs.Worked.{IsNeverUnder};
 
 use crate::rows::{rows_of_atoms, rows_of_each};
-use atom_normal::{Atom, Context};
 use atom_pruning::are_impossible;
 use formula_store::{FormulaId, Store};
 use formula_tree::Shape;
+use normal_atoms::{Atom, Context};
 use std::alloc::{AllocError, Global};
 
 /// Whether Farkas multipliers show that the formula is true at no point where the assumptions are: that no point meets its atoms, where it is

@@ -17,4 +17,3 @@ pub use covering::uncovered;
 pub use cutting::Reach;
 pub use impossible::is_impossible;
 pub use pruning::pruned;
-pub use theory_simplifier::{SimplError, simplify};

@@ -2,20 +2,20 @@
 
 ghost use Rattle.std.specs.Prelude.{◌≡◌, ◌≤◌, IfOk, map};
 ghost use Rattle.std.specs.List.{AllByRecursion};
-ghost use Rattle.formula_meaning.specs.Some.{EachOf};
-ghost use Rattle.case_theory.specs.FromEliminationReference.{IsTidy};
-ghost use Rattle.atom_normal.specs.Atoms.{context_of, atom_of, IsWellFormed};
-ghost use Rattle.atom_normal.specs.NormalForm.{IsNormal};
-ghost use Rattle.simplified_formulas.specs.Orderly.{IsOrderly};
-ghost use Rattle.simplified_formulas.specs.Simplifiable.{simplified_under};
+ghost use Rattle.logic_meaning.specs.Some.{EachOf};
+ghost use Rattle.elimination_theory.specs.Theorems.{IsTidy};
+ghost use Rattle.normal_atoms.specs.Atoms.{context_of, atom_of, IsWellFormed};
+ghost use Rattle.logic_meaning.specs.NormalForm.{IsNormal};
+ghost use Rattle.shape_theory.specs.Orderly.{IsOrderly};
+ghost use Rattle.shape_theory.specs.Simplifiable.{simplified_under};
 ghost use Rattle.formula_tree.specs.Makers.{IsMade, Keeps};
 ghost use Rattle.formula_store.specs.Nodes.{tree, IsId};
 ghost use Rattle.branch_pruning.specs.Pruned.{IsPrunedTo};
 
 use crate::cutting::{Cutter, Reach};
 use crate::rows::rows_of_atoms;
-use atom_normal::{Atom, Context};
 use formula_store::{FormulaId, Store};
+use normal_atoms::{Atom, Context};
 use std::alloc::{AllocError, Global};
 use theory_simplifier::{SimplError, simplify};
 

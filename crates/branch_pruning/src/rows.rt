@@ -2,15 +2,15 @@
 
 ghost use Rattle.std.specs.Prelude.{IfOk, map};
 ghost use Rattle.std.specs.List.{AllByRecursion};
-ghost use Rattle.atom_normal.specs.Atoms.{context_of, atom_of, IsWellFormed};
+ghost use Rattle.normal_atoms.specs.Atoms.{context_of, atom_of, IsWellFormed};
 ghost use Rattle.formula_store.specs.Nodes.{tree, IsId};
 ghost use Rattle.atom_pruning.specs.Rows.{AreRows, AreRowsOf};
 ghost use Rattle.branch_pruning.specs.Cuts.{said};
 
-use atom_normal::{Atom, Context};
 use atom_pruning::AtomRows;
 use formula_store::{FormulaId, Store};
 use formula_tree::Shape;
+use normal_atoms::{Atom, Context};
 use std::alloc::{AllocError, Global};
 
 /// The rows of each atom. Its only error is want of memory.

@@ -2,27 +2,27 @@
 use Rattle.std.proofs.Common.{◌≡◌, ◌⊎◌, ℕ, suc, zero, ◌≤◌, Some, None, Option, false, List, [], ◌∷◌, map, length, refl, sym, ap, ◌∙◌, subst, arith, inl, inr, ⊎_elim, true≢false}
 use Rattle.std.proofs.lemmas.List.{length-map}
 use Rattle.std.proofs.Math.IntN.{ℤ, pos, negsuc}
-use Rattle.formula_meaning.specs.Context.{Context}
-use Rattle.formula_meaning.specs.Answer.{Place}
-use Rattle.formula_meaning.specs.Atom.{Atom, Compare, Congruent, Equals, Differs, Below, AtMost, Above, AtLeast, Mentions}
-use Rattle.formula_meaning.specs.Every.{FreeInSome}
-use Rattle.formula_meaning.specs.Form.{Form, coefficient, without}
-use Rattle.formula_meaning.specs.Formula.{One, And, none, also}
-use Rattle.formula_meaning.specs.Some.{Among, SomeOf, EachOf}
-use Rattle.formula_meaning.specs.Tree.{Tree, Trees, IsFree}
-use Rattle.elimination_theory.specs.Substitution.{where_zero}
-use Rattle.atom_normal.specs.Atoms.{context_of, atom_of}
+use Rattle.logic_meaning.specs.Context.{Context}
+use Rattle.logic_meaning.specs.Answer.{Place}
+use Rattle.logic_meaning.specs.Atom.{Atom, Compare, Congruent, Equals, Differs, Below, AtMost, Above, AtLeast, Mentions}
+use Rattle.logic_meaning.specs.Every.{FreeInSome}
+use Rattle.logic_meaning.specs.Form.{Form, coefficient, without}
+use Rattle.logic_meaning.specs.Formula.{One, And, none, also}
+use Rattle.logic_meaning.specs.Some.{Among, SomeOf, EachOf}
+use Rattle.logic_meaning.specs.Tree.{Tree, Trees, IsFree}
+use Rattle.logic_meaning.specs.Substitution.{where_zero}
+use Rattle.normal_atoms.specs.Atoms.{context_of, atom_of}
 use Rattle.formula_tree.specs.declared.shape.Shape.{Shape}
 use Rattle.formula_store.specs.declared.id.FormulaId.{FormulaId}
 use Rattle.formula_tree.specs.Makers.{Keeps}
 use Rattle.formula_store.specs.Nodes.{tree, IsId}
-use Rattle.linear_forms.specs.declared.form.VarId.{VarId}
-use Rattle.virtual_subst.specs.FromNnfSubstitution.{all_within}
+use Rattle.logic_meaning.specs.declared.form.VarId.{VarId}
+use Rattle.nnf_trees.specs.Placed.{all_within}
 use Rattle.test_points.specs.declared.points.TestPoint.{TestPoint}
 use Rattle.test_points.specs.Points.{place_of}
 use Rattle.case_theory.specs.Children.{IsChild}
-use Rattle.case_theory.specs.Direct.{equation_of, first_of_two, first_equation}
-use Rattle.case_theory.specs.Roots.{IsRootOf, IsRoot}
+use Rattle.logic_meaning.specs.Direct.{equation_of, first_of_two, first_equation}
+use Rattle.logic_meaning.specs.Roots.{IsRootOf, IsRoot}
 use Rattle.branch_points.specs.declared.choice.Chosen.{Chosen}
 use Rattle.branch_points.specs.Chosen.{conjuncts, NeedsCounting, IsByRule, IsAtRoot, IsRootAmong}
 use Rattle.branch_points.proofs.RootsAmong.{root_first}
@@ -33,9 +33,9 @@ use Rattle.branch_rounds.specs.declared.work.Work.{Work}
 use Rattle.branch_rounds.specs.Branches.{Seen, branch_at, numbers}
 use Rattle.branch_rounds.specs.Children.{IsChildOf, AreChildrenOf, result_seen}
 use Rattle.branch_rounds.specs.Rounds.{IsSpreadOver, IsDirectAt, IsLeftAlone}
-use Rattle.branch_pruning.specs.FromSimplifiedTexts.{IsNoLarger}
-use Rattle.elimination_theory.specs.Steps.{result_at}
-use Rattle.atom_normal.specs.NormalForm.{normal_atom}
+use Rattle.shape_theory.specs.Texts.{IsNoLarger}
+use Rattle.logic_meaning.specs.Steps.{result_at}
+use Rattle.logic_meaning.specs.NormalForm.{normal_atom}
 
 -- ---- the word
 

@@ -1,29 +1,29 @@
 -- The children of a branch, one point after the other.
 use Rattle.std.proofs.Common.{◌≡◌, ℕ, zero, suc, ◌<◌, ◌≤◌, ◌+◌, length-append, List, [], ◌∷◌, ◌++◌, map, length, get_or, Some, refl, sym, ap, ◌∙◌, subst, arith, inl, inr}
 use Rattle.std.specs.Prelude.{Bool, Option, None, IfSome, IsSomeAnd, IsTrue, option_map, option_to_list}
-use Rattle.formula_meaning.specs.Context.{Context, Fields, Integers}
-use Rattle.formula_meaning.specs.Atom.{Atom}
-use Rattle.formula_meaning.specs.Answer.{Place}
-use Rattle.formula_meaning.specs.Formula.{Yes}
-use Rattle.formula_meaning.specs.Fold.{fold_list}
-use Rattle.formula_meaning.specs.declared.junction.Junction.TheVariants.{Conjunction}
-use Rattle.formula_meaning.specs.NegationNormal.{both}
-use Rattle.formula_meaning.specs.Some.{Among, EachOf}
-use Rattle.formula_meaning.specs.Tree.{Tree, TrueAt}
+use Rattle.logic_meaning.specs.Context.{Context, Fields, Integers}
+use Rattle.logic_meaning.specs.Atom.{Atom}
+use Rattle.logic_meaning.specs.Answer.{Place}
+use Rattle.logic_meaning.specs.Formula.{Yes}
+use Rattle.logic_meaning.specs.Fold.{fold_list}
+use Rattle.logic_meaning.specs.declared.junction.Junction.TheVariants.{Conjunction}
+use Rattle.logic_meaning.specs.NegationNormal.{both}
+use Rattle.logic_meaning.specs.Some.{Among, EachOf}
+use Rattle.logic_meaning.specs.Tree.{Tree, TrueAt}
 use Rattle.std.proofs.lemmas.List.{append-nil, map-append, same_from_push}
-use Rattle.elimination_theory.specs.BothTheories.{IsPlaceIn}
-use Rattle.elimination_theory.specs.Steps.{result_at}
+use Rattle.logic_meaning.specs.BothTheories.{IsPlaceIn}
+use Rattle.logic_meaning.specs.Steps.{result_at}
 use Rattle.elimination_theory.proofs.SomeListed.{each_append}
-use Rattle.elimination_reference.specs.Theorems.{IsTidy}
-use Rattle.elimination_reference.proofs.Tidy.{result_tidy}
-use Rattle.atom_normal.specs.NormalForm.{normal_atom}
-use Rattle.linear_forms.specs.declared.form.VarId.{VarId}
+use Rattle.elimination_theory.specs.Theorems.{IsTidy}
+use Rattle.elimination_theory.proofs.Tidy.{result_tidy}
+use Rattle.logic_meaning.specs.NormalForm.{normal_atom}
+use Rattle.logic_meaning.specs.declared.form.VarId.{VarId}
 use Rattle.formula_tree.specs.declared.shape.Shape.{Shape}
 use Rattle.formula_tree.specs.Makers.{AreMade, Keeps}
 use Rattle.formula_store.specs.declared.id.FormulaId.{FormulaId}
 use Rattle.formula_store.specs.Nodes.{tree, IsId}
-use Rattle.virtual_subst.specs.FromNnfSubstitution.{put}
-use Rattle.virtual_subst.proofs.FromNnfSubstitution.{guard_folded}
+use Rattle.nnf_trees.specs.Placed.{put}
+use Rattle.nnf_trees.proofs.ResultLaws.{guard_folded}
 use Rattle.test_points.specs.declared.points.TestPoint.{TestPoint}
 use Rattle.test_points.specs.Points.{place_of, IsPointOf}
 use Rattle.case_theory.specs.Points.{IsPointFor}
@@ -31,13 +31,13 @@ use Rattle.case_theory.specs.Worked.{IsWorked, IsNeverUnder}
 use Rattle.case_theory.specs.Children.{AreChildren, IsChild}
 use Rattle.case_theory.proofs.Children.{children_made}
 use Rattle.branch_rounds.specs.declared.children.Child.{Child}
-use Rattle.atom_normal.specs.declared.atoms.Context as code
-use Rattle.atom_normal.specs.Atoms.{context_of, atom_of}
+use Rattle.normal_atoms.specs.declared.atoms.Context as code
+use Rattle.normal_atoms.specs.Atoms.{context_of, atom_of}
 use Rattle.formula_store.proofs.Marked.{all_at}
 use Rattle.branch_points.specs.declared.choice.Chosen.{Chosen}
 use Rattle.branch_rounds.specs.declared.work.Work.{Work}
 use Rattle.branch_rounds.specs.Children.{HasPoints, IsChildOf, IsAdded, result_seen}
-use Rattle.branch_pruning.specs.FromSimplifiedTexts.{IsNoLarger}
+use Rattle.shape_theory.specs.Texts.{IsNoLarger}
 use Rattle.branch_pruning.specs.Pruned.{IsPrunedTo}
 use Rattle.branch_rounds.specs.Worked.{guarded, IsLeft, IsWorkedTo}
 use Rattle.branch_rounds.proofs.Left.{worked_to}

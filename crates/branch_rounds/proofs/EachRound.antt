@@ -1,14 +1,14 @@
 -- What each branch has, as a round goes on.
 use Rattle.std.proofs.Common.{◌≡◌, ℕ, suc, ◌<◌, ◌+◌, List, [], ◌∷◌, map, length, drop, sym, subst, refl, arith, ⊎_elim, length-drop}
-use Rattle.formula_meaning.specs.StandsOnce.{StandsOnce}
-use Rattle.formula_meaning.specs.Some.{EachOf}
+use Rattle.formula_laws.specs.StandsOnce.{StandsOnce}
+use Rattle.logic_meaning.specs.Some.{EachOf}
 use Rattle.elimination_theory.proofs.SomeListed.{each_append}
-use Rattle.elimination_reference.specs.Theorems.{IsTidy}
-use Rattle.atom_normal.specs.Atoms.{context_of, atom_of}
+use Rattle.elimination_theory.specs.Theorems.{IsTidy}
+use Rattle.normal_atoms.specs.Atoms.{context_of, atom_of}
 use Rattle.case_theory.specs.Under.{Lack}
 use Rattle.case_theory.specs.Pending.{begun}
 use Rattle.case_theory.proofs.Pending.{pending_begins}
-use Rattle.linear_forms.specs.declared.form.VarId.{VarId}
+use Rattle.logic_meaning.specs.declared.form.VarId.{VarId}
 use Rattle.formula_tree.specs.declared.shape.Shape.{Shape}
 use Rattle.formula_store.specs.declared.id.FormulaId.{FormulaId}
 use Rattle.formula_store.specs.Nodes.{tree, IsId}

@@ -11,5 +11,4 @@ pub mod Places
 pub mod Ended
 pub mod Alone
 pub mod FromBranchPoints
-pub mod FromCaseTheory
 pub mod FromTheorySimplifier

@@ -2,9 +2,9 @@
 use Rattle.std.proofs.Common.{◌≡◌, ℕ, suc, Bool, true, false, List, [], ◌∷◌, length, refl, sym, ap, ◌∙◌, subst, inl, inr, ⊎_elim, eqb-true}
 use Rattle.std.proofs.lemmas.Bool.{eqb-false}
 use Rattle.std.specs.Prelude.{nat_eq, if◌then◌else◌}
-use Rattle.formula_meaning.specs.Some.{Among}
-use Rattle.formula_meaning.specs.StandsOnce.{StandsOnce}
-use Rattle.linear_forms.specs.declared.form.VarId.{VarId}
+use Rattle.logic_meaning.specs.Some.{Among}
+use Rattle.formula_laws.specs.StandsOnce.{StandsOnce}
+use Rattle.logic_meaning.specs.declared.form.VarId.{VarId}
 use Rattle.case_theory.specs.Pending.{IsRest}
 use Rattle.case_theory.proofs.Lists.{once_more, once_head}
 use Rattle.branch_rounds.specs.Branches.{numbers, others_of}

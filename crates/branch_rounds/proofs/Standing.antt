@@ -1,8 +1,8 @@
 -- What branches stand for, as the store grows and as lists are put together.
 use Rattle.std.proofs.Common.{◌≡◌, List, [], ◌∷◌, ◌++◌, refl, sym, ap, ◌∙◌, subst, inl, inr, ⊎_elim}
-use Rattle.formula_meaning.specs.Some.{SomeOf, EachOf}
-use Rattle.elimination_reference.specs.Theorems.{IsTidy}
-use Rattle.atom_normal.specs.Atoms.{context_of}
+use Rattle.logic_meaning.specs.Some.{SomeOf, EachOf}
+use Rattle.elimination_theory.specs.Theorems.{IsTidy}
+use Rattle.normal_atoms.specs.Atoms.{context_of}
 use Rattle.formula_tree.specs.declared.shape.Shape.{Shape}
 use Rattle.formula_tree.specs.Makers.{Keeps}
 use Rattle.formula_store.specs.declared.id.FormulaId.{FormulaId}

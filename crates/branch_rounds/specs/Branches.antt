@@ -1,13 +1,13 @@
 -- Branches of a block over the nodes of a store, and what they stand for.
 use Rattle.std.specs.HashMap.{get}
 use Rattle.std.specs.Prelude.{◌≡◌, ◌⊎◌, ℕ, List, [], ◌∷◌, ◌++◌, Some, slice_get, map, reverse, nat_eq, if◌then◌else◌}
-use Rattle.formula_meaning.specs.StandsOnce.{StandsOnce}
-use Rattle.formula_meaning.specs.Some.{SomeOf, EachOf}
-use Rattle.formula_meaning.specs.Tree.{Tree}
-use Rattle.elimination_theory.specs.Answers.{answers_of}
-use Rattle.elimination_reference.specs.Theorems.{IsTidy}
-use Rattle.atom_normal.specs.Atoms.{context_of, atom_of}
-use Rattle.linear_forms.specs.declared.form.VarId.{VarId}
+use Rattle.formula_laws.specs.StandsOnce.{StandsOnce}
+use Rattle.logic_meaning.specs.Some.{SomeOf, EachOf}
+use Rattle.logic_meaning.specs.Tree.{Tree}
+use Rattle.logic_meaning.specs.Answers.{answers_of}
+use Rattle.elimination_theory.specs.Theorems.{IsTidy}
+use Rattle.normal_atoms.specs.Atoms.{context_of, atom_of}
+use Rattle.logic_meaning.specs.declared.form.VarId.{VarId}
 use Rattle.formula_tree.specs.declared.shape.Shape.{Shape}
 use Rattle.formula_store.specs.declared.id.FormulaId.{FormulaId}
 use Rattle.formula_store.specs.Nodes.{tree, IsId}

@@ -1,11 +1,11 @@
 -- The branches of a leading block, with no name left, as cases of its formula.
 use Rattle.std.specs.Prelude.{◌≡◌, List, map, reverse}
-use Rattle.formula_meaning.specs.Every.{Every}
-use Rattle.formula_meaning.specs.Atom.{Atom}
-use Rattle.formula_meaning.specs.Tree.{Tree}
-use Rattle.elimination_reference.specs.Cases.{Case, case_matrix, case_names}
-use Rattle.atom_normal.specs.Atoms.{context_of, atom_of}
-use Rattle.atom_normal.specs.NormalForm.{IsNormal}
+use Rattle.logic_meaning.specs.Every.{Every}
+use Rattle.logic_meaning.specs.Atom.{Atom}
+use Rattle.logic_meaning.specs.Tree.{Tree}
+use Rattle.logic_meaning.specs.Cases.{Case, case_matrix, case_names}
+use Rattle.normal_atoms.specs.Atoms.{context_of, atom_of}
+use Rattle.logic_meaning.specs.NormalForm.{IsNormal}
 use Rattle.formula_tree.specs.declared.shape.Shape.{Shape}
 use Rattle.formula_store.specs.declared.id.FormulaId.{FormulaId}
 use Rattle.formula_store.specs.Nodes.{tree}

@@ -1,16 +1,16 @@
 -- The children of a branch at the points of a name.
 use Rattle.std.specs.Prelude.{◌≡◌, ◌≤◌, ◌++◌, Bool, List, All, Option, IfSome, IsSomeAnd, IsTrue, length, map, option_map, option_to_list}
-use Rattle.formula_meaning.specs.Context as meaning
-use Rattle.formula_meaning.specs.Formula.{Yes}
-use Rattle.formula_meaning.specs.Some.{EachOf}
-use Rattle.formula_meaning.specs.Tree.{Tree}
-use Rattle.elimination_theory.specs.BothTheories.{IsPlaceIn}
-use Rattle.elimination_theory.specs.Steps.{Result, result_at}
-use Rattle.atom_normal.specs.declared.atoms.Context.{Context}
-use Rattle.atom_normal.specs.Atoms.{context_of, atom_of}
-use Rattle.atom_normal.specs.NormalForm.{normal_atom}
-use Rattle.branch_pruning.specs.FromSimplifiedTexts.{IsNoLarger}
-use Rattle.linear_forms.specs.declared.form.VarId.{VarId}
+use Rattle.logic_meaning.specs.Context as meaning
+use Rattle.logic_meaning.specs.Formula.{Yes}
+use Rattle.logic_meaning.specs.Some.{EachOf}
+use Rattle.logic_meaning.specs.Tree.{Tree}
+use Rattle.logic_meaning.specs.BothTheories.{IsPlaceIn}
+use Rattle.logic_meaning.specs.Steps.{Result, result_at}
+use Rattle.normal_atoms.specs.declared.atoms.Context.{Context}
+use Rattle.normal_atoms.specs.Atoms.{context_of, atom_of}
+use Rattle.logic_meaning.specs.NormalForm.{normal_atom}
+use Rattle.shape_theory.specs.Texts.{IsNoLarger}
+use Rattle.logic_meaning.specs.declared.form.VarId.{VarId}
 use Rattle.formula_tree.specs.declared.shape.Shape.{Shape}
 use Rattle.formula_store.specs.declared.id.FormulaId.{FormulaId}
 use Rattle.formula_store.specs.Nodes.{tree, IsId}

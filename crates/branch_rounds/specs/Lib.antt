@@ -5,5 +5,3 @@ pub mod Rounds
 pub mod Thinned
 pub mod Cases
 pub mod FromBranchPoints
-pub mod FromCaseTheory
-pub mod FromSimplifiedTexts

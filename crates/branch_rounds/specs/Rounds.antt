@@ -1,30 +1,30 @@
 -- One round over the branches of a block.
 use Rattle.std.specs.Prelude.{◌≡◌, ◌⊎◌, ◌+◌, ◌≤◌, true, false, ℕ, suc, Some, List, [], ◌∷◌, length, map}
-use Rattle.formula_meaning.specs.Formula.{Yes}
-use Rattle.formula_meaning.specs.Some.{Among, SomeOf, EachOf}
-use Rattle.formula_meaning.specs.Context as meaning
-use Rattle.formula_meaning.specs.Form.{Form}
-use Rattle.formula_meaning.specs.Sizes.{nodes}
-use Rattle.formula_meaning.specs.Tree.{Tree}
-use Rattle.formula_meaning.specs.Answer.{Place}
-use Rattle.elimination_theory.specs.Steps.{Result, result_at}
-use Rattle.atom_normal.specs.declared.atoms.Context.{Context}
-use Rattle.atom_normal.specs.Atoms.{context_of, atom_of}
-use Rattle.atom_normal.specs.NormalForm.{normal_atom}
-use Rattle.branch_pruning.specs.FromSimplifiedTexts.{IsNoLarger}
-use Rattle.virtual_subst.specs.FromNnfSubstitution.{all_within}
+use Rattle.logic_meaning.specs.Formula.{Yes}
+use Rattle.logic_meaning.specs.Some.{Among, SomeOf, EachOf}
+use Rattle.logic_meaning.specs.Context as meaning
+use Rattle.logic_meaning.specs.Form.{Form}
+use Rattle.logic_meaning.specs.Sizes.{nodes}
+use Rattle.logic_meaning.specs.Tree.{Tree}
+use Rattle.logic_meaning.specs.Answer.{Place}
+use Rattle.logic_meaning.specs.Steps.{Result, result_at}
+use Rattle.normal_atoms.specs.declared.atoms.Context.{Context}
+use Rattle.normal_atoms.specs.Atoms.{context_of, atom_of}
+use Rattle.logic_meaning.specs.NormalForm.{normal_atom}
+use Rattle.shape_theory.specs.Texts.{IsNoLarger}
+use Rattle.nnf_trees.specs.Placed.{all_within}
 use Rattle.test_points.specs.declared.points.TestPoint.{TestPoint}
 use Rattle.test_points.specs.Points.{place_of}
 use Rattle.branch_points.specs.declared.choice.Chosen.{Chosen}
 use Rattle.branch_points.specs.Chosen.{IsChosen, NeedsCounting, conjuncts}
-use Rattle.linear_forms.specs.declared.form.VarId.{VarId}
+use Rattle.logic_meaning.specs.declared.form.VarId.{VarId}
 use Rattle.formula_tree.specs.declared.shape.Shape.{Shape}
 use Rattle.formula_store.specs.declared.id.FormulaId.{FormulaId}
 use Rattle.formula_store.specs.Nodes.{tree}
 use Rattle.case_theory.specs.Pending.{Pending, IsRest, children}
 use Rattle.case_theory.specs.Points.{ArePointsFor}
-use Rattle.case_theory.specs.Roots.{IsRoot}
-use Rattle.case_theory.specs.Direct.{first_equation}
+use Rattle.logic_meaning.specs.Roots.{IsRoot}
+use Rattle.logic_meaning.specs.Direct.{first_equation}
 use Rattle.case_theory.specs.Children.{AreChildren}
 use Rattle.branch_rounds.specs.declared.work.Work.{Work}
 use Rattle.branch_rounds.specs.Branches.{Seen, IsOpen, AllStand, StandsFor, ArePendingOf, Takes, numbers}

@@ -1,17 +1,17 @@
 -- What is left of a formula under the assumptions.
 use Rattle.std.specs.Prelude.{◌≤◌, List, map, Option, Some, None}
 use Rattle.std.specs.List.{AllByRecursion}
-use Rattle.formula_meaning.specs.Context.{Context, Fields, Integers}
-use Rattle.formula_meaning.specs.Answer.{Place}
-use Rattle.formula_meaning.specs.Atom.{Atom}
-use Rattle.formula_meaning.specs.Some.{EachOf}
-use Rattle.formula_meaning.specs.Tree.{Tree}
-use Rattle.atom_normal.specs.Atoms.{context_of, atom_of, IsWellFormed}
-use Rattle.atom_normal.specs.NormalForm.{IsNormal}
+use Rattle.logic_meaning.specs.Context.{Context, Fields, Integers}
+use Rattle.logic_meaning.specs.Answer.{Place}
+use Rattle.logic_meaning.specs.Atom.{Atom}
+use Rattle.logic_meaning.specs.Some.{EachOf}
+use Rattle.logic_meaning.specs.Tree.{Tree}
+use Rattle.normal_atoms.specs.Atoms.{context_of, atom_of, IsWellFormed}
+use Rattle.logic_meaning.specs.NormalForm.{IsNormal}
 use Rattle.formula_tree.specs.declared.shape.Shape.{Shape}
 use Rattle.formula_store.specs.declared.id.FormulaId.{FormulaId}
 use Rattle.formula_store.specs.Nodes.{tree, IsId}
-use Rattle.virtual_subst.specs.FromNnfSubstitution.{with_guard}
+use Rattle.nnf_trees.specs.Placed.{with_guard}
 use Rattle.case_theory.specs.Worked.{IsWorked, IsNeverUnder}
 use Rattle.branch_pruning.specs.Pruned.{IsPrunedTo}
 use Rattle.branch_rounds.specs.declared.work.Work.{Work}

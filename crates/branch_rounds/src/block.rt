@@ -1,16 +1,16 @@
 //! All names of a block put, one after the other.
 
 ghost use Rattle.std.specs.Prelude.{◌≡◌, ◌∷◌, [], IfOk, IfErr, MatchResult, map};
-ghost use Rattle.formula_meaning.specs.Answer.{Place};
-ghost use Rattle.formula_meaning.specs.Some.{EachOf};
-ghost use Rattle.formula_meaning.specs.StandsOnce.{StandsOnce};
-ghost use Rattle.elimination_reference.specs.Theorems.{IsTidy};
-ghost use Rattle.atom_normal.specs.Atoms.{context_of, atom_of};
+ghost use Rattle.logic_meaning.specs.Answer.{Place};
+ghost use Rattle.logic_meaning.specs.Some.{EachOf};
+ghost use Rattle.formula_laws.specs.StandsOnce.{StandsOnce};
+ghost use Rattle.elimination_theory.specs.Theorems.{IsTidy};
+ghost use Rattle.normal_atoms.specs.Atoms.{context_of, atom_of};
 ghost use Rattle.case_theory.specs.Under.{Lack};
 ghost use Rattle.formula_tree.specs.Makers.{Keeps};
 ghost use Rattle.formula_store.specs.Nodes.{tree, IsId};
 ghost use Rattle.branch_rounds.specs.Worked.{IsWork};
-ghost use Rattle.linear_forms.specs.declared.form.VarId.{VarId};
+ghost use Rattle.logic_meaning.specs.declared.form.VarId.{VarId};
 ghost use Rattle.branch_rounds.specs.Branches.{AreBranchesOf, numbers};
 ghost use Rattle.branch_rounds.specs.Rounds.{PassesAt, IsDirectAt, IsLeftAlone};
 
@@ -21,7 +21,7 @@ use crate::rounds::all_of;
 use crate::work::Work;
 use branch_pruning::is_impossible;
 use formula_store::{FormulaId, Store};
-use linear_forms::VarId;
+use logic_meaning::VarId;
 use qe_parallel::Gate;
 use std::alloc::{AllocError, Global};
 use std::thread::Threads;

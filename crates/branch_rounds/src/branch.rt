@@ -3,7 +3,7 @@
 ghost use Rattle.std.specs.Prelude.{◌≡◌, IfOk, map, reverse};
 
 use formula_store::FormulaId;
-use linear_forms::VarId;
+use logic_meaning::VarId;
 use std::alloc::{AllocError, Global};
 use std::marker::Model;
 use test_points::TestPoint;

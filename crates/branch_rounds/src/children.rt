@@ -1,14 +1,14 @@
 //! What becomes of a branch at each of the points of a name.
 
 ghost use Rattle.std.specs.Prelude.{◌≡◌, ◌↔◌, ◌<◌, ◌≤◌, ◌++◌, ◌∷◌, [], List, All, IfOk, IfErr, IsTrue, length, map, false};
-ghost use Rattle.formula_meaning.specs.Formula.{Yes};
-ghost use Rattle.formula_meaning.specs.Some.{SomeOf};
-ghost use Rattle.elimination_theory.specs.BothTheories.{IsPlaceIn};
-ghost use Rattle.elimination_reference.specs.Theorems.{IsTidy};
-ghost use Rattle.atom_normal.specs.Atoms.{context_of, atom_of};
+ghost use Rattle.logic_meaning.specs.Formula.{Yes};
+ghost use Rattle.logic_meaning.specs.Some.{SomeOf};
+ghost use Rattle.logic_meaning.specs.BothTheories.{IsPlaceIn};
+ghost use Rattle.elimination_theory.specs.Theorems.{IsTidy};
+ghost use Rattle.normal_atoms.specs.Atoms.{context_of, atom_of};
 ghost use Rattle.formula_tree.specs.Makers.{AreMade, Keeps};
 ghost use Rattle.formula_store.specs.Nodes.{tree, IsId};
-ghost use Rattle.virtual_subst.specs.FromNnfSubstitution.{put, all_within};
+ghost use Rattle.nnf_trees.specs.Placed.{put, all_within};
 ghost use Rattle.test_points.specs.Points.{place_of, IsTestPoint};
 ghost use Rattle.branch_rounds.specs.Worked.{IsWork, guarded};
 ghost use Rattle.branch_rounds.specs.declared.children.Child.{Child};

@@ -1,10 +1,10 @@
 //! One name less in every branch.
 
 ghost use Rattle.std.specs.Prelude.{◌≡◌, ◌<◌, ◌++◌, [], ◌∷◌, IfOk, IfErr, OnOk, MatchResult, IsTrue, ◌↔◌, length, map};
-ghost use Rattle.formula_meaning.specs.Answer.{Place};
-ghost use Rattle.formula_meaning.specs.Some.{EachOf, SomeOf};
-ghost use Rattle.atom_normal.specs.Atoms.{context_of, atom_of};
-ghost use Rattle.linear_forms.specs.declared.form.VarId.{VarId};
+ghost use Rattle.logic_meaning.specs.Answer.{Place};
+ghost use Rattle.logic_meaning.specs.Some.{EachOf, SomeOf};
+ghost use Rattle.normal_atoms.specs.Atoms.{context_of, atom_of};
+ghost use Rattle.logic_meaning.specs.declared.form.VarId.{VarId};
 ghost use Rattle.formula_tree.specs.Makers.{Keeps};
 ghost use Rattle.formula_store.specs.Nodes.{tree, IsId};
 ghost use Rattle.branch_rounds.specs.Worked.{IsWork};
@@ -20,7 +20,7 @@ use crate::work::Work;
 use branch_points::chosen;
 use branch_pruning::Reach;
 use formula_store::Store;
-use linear_forms::VarId;
+use logic_meaning::VarId;
 use qe_parallel::Gate;
 use std::alloc::{AllocError, Global};
 use std::thread::Threads;

@@ -1,12 +1,12 @@
 //! The branches that a round makes.
 
 ghost use Rattle.std.specs.Prelude.{◌≡◌, OnOk, IsTrue, []};
-ghost use Rattle.formula_meaning.specs.Some.{SomeOf};
+ghost use Rattle.logic_meaning.specs.Some.{SomeOf};
 ghost use Rattle.branch_rounds.specs.Branches.{Takes, IsAlike};
 
 use crate::branch::Branch;
 use formula_store::FormulaId;
-use linear_forms::VarId;
+use logic_meaning::VarId;
 use std::alloc::{AllocError, Global};
 use std::collections::HashMap;
 use std::marker::Model;

@@ -1,7 +1,7 @@
 //! The branches of a block without those that others cover.
 
 ghost use Rattle.std.specs.Prelude.{◌≡◌, ◌≤◌, IfOk};
-ghost use Rattle.formula_meaning.specs.Some.{EachOf};
+ghost use Rattle.logic_meaning.specs.Some.{EachOf};
 ghost use Rattle.formula_store.specs.Nodes.{IsId};
 ghost use Rattle.branch_pruning.specs.FromAtomPruning.{marked as marked_of};
 ghost use Rattle.branch_rounds.specs.Worked.{IsWork};

@@ -1,4 +1,4 @@
-use atom_normal::{Atom, Context};
+use normal_atoms::{Atom, Context};
 use std::alloc::Global;
 
 /// What all steps of a block share: the theory, the assumptions, none of which has a name of the block, and by how many threads at

@@ -5,15 +5,15 @@ use Rattle.std.specs.Prelude.{◌<ℤ◌}
 use Rattle.std.proofs.lemmas.Bool.{cases_eq}
 use Rattle.exact_numbers.proofs.Ring.{mul_comm, mul_assoc, mul_left_comm}
 use Rattle.exact_numbers.proofs.Order.{cancel_positive}
-use Rattle.formula_meaning.specs.Context.{Context, Allowed}
-use Rattle.formula_meaning.specs.Point.{Point, Of, move}
-use Rattle.formula_meaning.specs.Formula.{Ex}
-use Rattle.formula_meaning.specs.Some.{Among}
-use Rattle.formula_meaning.specs.Tree.{Tree, TrueAt}
-use Rattle.formula_meaning.proofs.TreeFiner.{allowed_positive, tree_same_point}
-use Rattle.formula_meaning.proofs.TreeReplacing.{moved_of}
-use Rattle.formula_meaning.proofs.Equivalence.{absent_moved}
-use Rattle.elimination_reference.proofs.PutIn.{of_allowed}
+use Rattle.logic_meaning.specs.Context.{Context, Allowed}
+use Rattle.logic_meaning.specs.Point.{Point, Of, move}
+use Rattle.logic_meaning.specs.Formula.{Ex}
+use Rattle.logic_meaning.specs.Some.{Among}
+use Rattle.logic_meaning.specs.Tree.{Tree, TrueAt}
+use Rattle.formula_laws.proofs.TreeFiner.{allowed_positive, tree_same_point}
+use Rattle.formula_laws.proofs.TreeReplacing.{moved_of}
+use Rattle.formula_laws.proofs.Equivalence.{absent_moved}
+use Rattle.elimination_theory.proofs.PutIn.{of_allowed}
 use Rattle.case_theory.specs.Block.{SameValue, DifferIn, Somewhere, BlockHasNoOrder}
 use Rattle.case_theory.proofs.Moved.{moved_here, moved_there, moved_below, exists_here}
 

@@ -1,29 +1,29 @@
 -- The children of a branch, made point by point.
 use Rattle.std.proofs.Common.{ℕ, List, [], ◌∷◌, ◌++◌, refl, sym, subst, inl, inr, ⊎_elim}
-use Rattle.formula_meaning.specs.Context.{Context, Fields, Integers}
-use Rattle.formula_meaning.specs.Formula.{Ex}
-use Rattle.formula_meaning.specs.Some.{Among, EachOf}
-use Rattle.formula_meaning.specs.Atom.{Atom}
-use Rattle.formula_meaning.specs.Plain.{IsPlain}
-use Rattle.formula_meaning.specs.Answer.{Place}
-use Rattle.formula_meaning.specs.Tree.{Tree, TrueAt, IsFree}
-use Rattle.formula_meaning.specs.Equivalence.{InContext}
-use Rattle.formula_meaning.proofs.Iff.{both_ways}
-use Rattle.formula_meaning.proofs.Listed.{among_left, among_right}
+use Rattle.logic_meaning.specs.Context.{Context, Fields, Integers}
+use Rattle.logic_meaning.specs.Formula.{Ex}
+use Rattle.logic_meaning.specs.Some.{Among, EachOf}
+use Rattle.logic_meaning.specs.Atom.{Atom}
+use Rattle.logic_meaning.specs.Plain.{IsPlain}
+use Rattle.logic_meaning.specs.Answer.{Place}
+use Rattle.logic_meaning.specs.Tree.{Tree, TrueAt, IsFree}
+use Rattle.formula_laws.specs.Equivalence.{InContext}
+use Rattle.formula_laws.proofs.Iff.{both_ways}
+use Rattle.formula_laws.proofs.Listed.{among_left, among_right}
 use Rattle.elimination_theory.specs.NamesTheorems.{IsNameOf}
-use Rattle.elimination_theory.specs.BothTheories.{IsPlaceIn}
+use Rattle.logic_meaning.specs.BothTheories.{IsPlaceIn}
 use Rattle.elimination_theory.specs.Places.{substitution}
-use Rattle.elimination_theory.specs.Steps.{Result, result_at}
+use Rattle.logic_meaning.specs.Steps.{Result, result_at}
 use Rattle.elimination_theory.proofs.SomeListed.{each_map, each_append, some_left, some_right, some_either}
-use Rattle.elimination_theory.specs.Answers.{zero_place}
+use Rattle.logic_meaning.specs.Answers.{zero_place}
 use Rattle.elimination_theory.proofs.Answers.{absent_zero}
 use Rattle.elimination_theory.proofs.BothSubstitutions.{place_in}
 use Rattle.elimination_theory.proofs.FieldsNames.{field_substitution_names}
 use Rattle.elimination_theory.proofs.IntegersNames.{integer_substitution_names}
 use Rattle.elimination_theory.proofs.OneStep.{Becomes, result_becomes}
-use Rattle.elimination_reference.specs.FromAtomNormal.{normal_atom}
-use Rattle.elimination_reference.specs.Theorems.{IsTidy}
-use Rattle.elimination_reference.proofs.Tidy.{normaliser, tidy_in}
+use Rattle.logic_meaning.specs.NormalForm.{normal_atom}
+use Rattle.elimination_theory.specs.Theorems.{IsTidy}
+use Rattle.elimination_theory.proofs.Tidy.{normaliser, tidy_in}
 use Rattle.case_theory.specs.Points.{IsPointFor}
 use Rattle.case_theory.specs.Worked.{IsWorked, IsNeverUnder}
 use Rattle.case_theory.specs.Children.{IsChild, AreChildren, ChildrenAreMade}

@@ -7,13 +7,13 @@ use Rattle.exact_numbers.specs.Divides.{Divides}
 use Rattle.exact_numbers.proofs.Ring.{mul_add, mul_assoc}
 use Rattle.exact_numbers.proofs.Order.{mul_negative, mul_not_negative, at_most_mul}
 use Rattle.exact_numbers.proofs.Divisibility.{divides_add, divides_along, divides_trans, divides_same, divides_mul, divides_zero}
-use Rattle.formula_meaning.specs.Context.{Integers}
-use Rattle.formula_meaning.specs.Point.{Point, move}
-use Rattle.formula_meaning.specs.Form.{coefficient, value}
-use Rattle.formula_meaning.specs.Atom.{Atom, Compare, Congruent}
-use Rattle.formula_meaning.specs.Answer.{Periodic, Holds}
-use Rattle.formula_meaning.specs.Tree.{Tree, TrueAt}
-use Rattle.formula_meaning.proofs.EachAtom.{every_map}
+use Rattle.logic_meaning.specs.Context.{Integers}
+use Rattle.logic_meaning.specs.Point.{Point, move}
+use Rattle.logic_meaning.specs.Form.{coefficient, value}
+use Rattle.logic_meaning.specs.Atom.{Atom, Compare, Congruent}
+use Rattle.logic_meaning.specs.Answer.{Periodic, Holds}
+use Rattle.logic_meaning.specs.Tree.{Tree, TrueAt}
+use Rattle.formula_laws.proofs.EachAtom.{every_map}
 use Rattle.elimination_theory.specs.AtPlace.{at_place}
 use Rattle.elimination_theory.specs.IntegersSample.{IsPast, LiesBeyond, ComesFirst, IsClassSample}
 use Rattle.elimination_theory.proofs.IntegerSample.{sample_is_true}

@@ -1,41 +1,38 @@
 -- The answer of a direct formula is exact.
 use Rattle.std.proofs.Common.{◌≡◌, ℕ, suc, zero, Option, Some, None, sym, subst, refl, arith, inl, inr, ⊎_elim}
 use Rattle.std.proofs.Math.IntN.{ℤ, pos, negsuc}
-use Rattle.formula_meaning.specs.Context.{Fields}
-use Rattle.formula_meaning.specs.Formula.{Yes, No, One, And, Ex, none, also}
-use Rattle.formula_meaning.specs.Every.{Every}
-use Rattle.formula_meaning.specs.Form.{Form, coefficient}
-use Rattle.formula_meaning.specs.Atom.{Atom, Compare, Congruent, Equals, Differs, Below, AtMost, Above, AtLeast}
-use Rattle.formula_meaning.specs.Plain.{ArePlain}
-use Rattle.formula_meaning.specs.Tree.{Tree, Trees}
-use Rattle.formula_meaning.proofs.Iff.{both_ways}
-use Rattle.elimination_theory.specs.Substitution.{where_zero}
-use Rattle.elimination_reference.specs.FromAtomNormal.{IsNormal, normal_atom}
-use Rattle.elimination_reference.specs.Theorems.{IsAnswerTo}
-use Rattle.formula_meaning.specs.Answer.{Place}
-use Rattle.formula_meaning.specs.Replaced.{replaced}
-use Rattle.elimination_theory.specs.Steps.{atom_at}
+use Rattle.logic_meaning.specs.Context.{Fields}
+use Rattle.logic_meaning.specs.Formula.{Yes, No, One, And, Ex, none, also}
+use Rattle.logic_meaning.specs.Every.{Every}
+use Rattle.logic_meaning.specs.Form.{Form, coefficient}
+use Rattle.logic_meaning.specs.Atom.{Atom, Compare, Congruent, Equals, Differs, Below, AtMost, Above, AtLeast, form_of}
+use Rattle.logic_meaning.specs.Plain.{ArePlain}
+use Rattle.logic_meaning.specs.Tree.{Tree, Trees}
+use Rattle.formula_laws.proofs.Iff.{both_ways}
+use Rattle.logic_meaning.specs.Substitution.{where_zero}
+use Rattle.logic_meaning.specs.NormalForm.{IsNormal, normal_atom}
+use Rattle.elimination_theory.specs.Theorems.{IsAnswerTo}
+use Rattle.logic_meaning.specs.Answer.{Place}
+use Rattle.logic_meaning.specs.Replaced.{replaced}
+use Rattle.logic_meaning.specs.Steps.{atom_at, normalised}
 use Rattle.elimination_theory.proofs.OneStep.{result_becomes}
-use Rattle.elimination_theory.proofs.Simple.{replaced_plain}
+use Rattle.elimination_theory.proofs.Simple.{replaced_plain, IsSimple, simple_normalised, raw_simple}
 use Rattle.elimination_theory.proofs.FieldsNames.{field_substitution_names}
-use Rattle.elimination_reference.proofs.Tidy.{normaliser, tidy_folded, put_normal, atom_at_simple}
-use Rattle.elimination_reference.proofs.Turning.{normal_inside}
+use Rattle.elimination_theory.proofs.Tidy.{normaliser, tidy_folded, put_normal, atom_at_simple}
+use Rattle.elimination_theory.proofs.Turning.{normal_inside}
 use Rattle.std.proofs.lemmas.Int.{ints}
 use Rattle.exact_numbers.specs.Limit.{InLimit}
-use Rattle.formula_meaning.specs.Atom.{form_of}
-use Rattle.formula_meaning.proofs.Fold.{folded_every}
-use Rattle.formula_meaning.proofs.EachAtom.{every_both}
-use Rattle.formula_meaning.proofs.ReplacedShape.{every_replaced}
-use Rattle.elimination_theory.specs.BothTheories.{IsPlaceIn, raw_atom}
-use Rattle.elimination_theory.specs.Steps.{normalised}
-use Rattle.elimination_theory.specs.Overflow.{NumbersWithin}
-use Rattle.elimination_theory.proofs.Simple.{IsSimple, simple_normalised, raw_simple}
+use Rattle.formula_laws.proofs.Fold.{folded_every}
+use Rattle.formula_laws.proofs.EachAtom.{every_both}
+use Rattle.formula_laws.proofs.ReplacedShape.{every_replaced}
+use Rattle.logic_meaning.specs.BothTheories.{IsPlaceIn, raw_atom}
+use Rattle.logic_meaning.specs.Overflow.{NumbersWithin}
 use Rattle.elimination_theory.proofs.SomeListed.{every_of_atoms}
-use Rattle.elimination_reference.proofs.FromAtomNormal.{normal_in}
-use Rattle.elimination_reference.specs.LimitsWithin.{ConstantWithin, AtomFormsWithin}
+use Rattle.normal_atoms.proofs.NormalLaws.{normal_in}
+use Rattle.logic_meaning.specs.LimitsWithin.{ConstantWithin, AtomFormsWithin}
 use Rattle.case_theory.specs.Points.{IsConjunctOfSome}
-use Rattle.case_theory.specs.Roots.{IsRoot}
-use Rattle.case_theory.specs.Direct.{AreAtoms, equation_of, first_of_two, first_equation, direct_answer}
+use Rattle.logic_meaning.specs.Roots.{IsRoot}
+use Rattle.logic_meaning.specs.Direct.{AreAtoms, equation_of, first_of_two, first_equation, direct_answer}
 use Rattle.case_theory.specs.DirectTheorems.{DirectAnswerIsExact, DirectAnswerIsWithin}
 use Rattle.case_theory.proofs.Points.{root_point}
 

@@ -1,31 +1,31 @@
 -- The list of branches of a block at its end: cases of the formula, or a formula that the block has become.
 use Rattle.std.proofs.Common.{◌≡◌, ℕ, Bool, true, false, List, [], ◌∷◌, ◌++◌, ap, sym, subst, refl, inl, inr, ◌↔◌, nat_eq}
-use Rattle.formula_meaning.specs.Context.{Context}
-use Rattle.formula_meaning.specs.Point.{Point, Of, move}
-use Rattle.formula_meaning.specs.Truth.{SomeTrue}
-use Rattle.formula_meaning.specs.Formula.{Or, also}
-use Rattle.formula_meaning.specs.Every.{Every, FreeInSome}
-use Rattle.formula_meaning.specs.declared.junction.Junction.TheVariants.{Disjunction}
-use Rattle.formula_meaning.specs.Some.{SomeOf, Among, EachOf}
-use Rattle.formula_meaning.specs.StandsOnce.{StandsOnce}
-use Rattle.formula_meaning.specs.Atom.{Atom, Says, Mentions}
-use Rattle.formula_meaning.specs.Answer.{Answer}
-use Rattle.formula_meaning.specs.Tree.{Tree, Trees, TrueAt, IsFree}
-use Rattle.formula_meaning.proofs.Iff.{both_ways, either_iff}
-use Rattle.formula_meaning.proofs.Equivalence.{equivalent_self}
-use Rattle.formula_meaning.proofs.TreeReplacing.{moved_of}
-use Rattle.formula_meaning.proofs.Fold.{free_of_members, fold_list_has, fold_list_true}
-use Rattle.elimination_theory.specs.BothTheories.{IsPlaceIn}
-use Rattle.elimination_theory.specs.Answers.{Step, answers_of}
+use Rattle.logic_meaning.specs.Context.{Context}
+use Rattle.logic_meaning.specs.Point.{Point, Of, move}
+use Rattle.logic_meaning.specs.Truth.{SomeTrue}
+use Rattle.logic_meaning.specs.Formula.{Or, also}
+use Rattle.logic_meaning.specs.Every.{Every, FreeInSome}
+use Rattle.logic_meaning.specs.declared.junction.Junction.TheVariants.{Disjunction}
+use Rattle.logic_meaning.specs.Some.{SomeOf, Among, EachOf}
+use Rattle.formula_laws.specs.StandsOnce.{StandsOnce}
+use Rattle.logic_meaning.specs.Atom.{Atom, Says, Mentions}
+use Rattle.logic_meaning.specs.Answer.{Answer}
+use Rattle.logic_meaning.specs.Tree.{Tree, Trees, TrueAt, IsFree}
+use Rattle.formula_laws.proofs.Iff.{both_ways, either_iff}
+use Rattle.formula_laws.proofs.Equivalence.{equivalent_self}
+use Rattle.formula_laws.proofs.TreeReplacing.{moved_of}
+use Rattle.formula_laws.proofs.Fold.{free_of_members, fold_list_has, fold_list_true}
+use Rattle.logic_meaning.specs.BothTheories.{IsPlaceIn}
+use Rattle.logic_meaning.specs.Answers.{Step, answers_of}
 use Rattle.elimination_theory.proofs.BothSubstitutions.{place_in}
-use Rattle.elimination_reference.specs.FromAtomNormal.{IsNormal}
-use Rattle.simplified_formulas.specs.Simplifiable.{EquivalentUnder}
-use Rattle.elimination_reference.specs.Reference.{normal_tree}
-use Rattle.elimination_reference.specs.Cases.{case_sign, case_formula, case_matrix, case_names}
-use Rattle.elimination_reference.specs.Theorems.{IsTidy, Says as SaysAll}
-use Rattle.elimination_reference.specs.AnswerParts.{guards_of}
-use Rattle.elimination_reference.proofs.Tidy.{AreTidy, tidy_fold_list}
-use Rattle.elimination_reference.proofs.CasesExact.{says}
+use Rattle.logic_meaning.specs.NormalForm.{IsNormal}
+use Rattle.shape_theory.specs.Simplifiable.{EquivalentUnder}
+use Rattle.logic_meaning.specs.Reference.{normal_tree}
+use Rattle.logic_meaning.specs.Cases.{case_sign, case_formula, case_matrix, case_names}
+use Rattle.elimination_theory.specs.Theorems.{IsTidy, Says as SaysAll}
+use Rattle.logic_meaning.specs.AnswerParts.{guards_of}
+use Rattle.elimination_theory.proofs.Tidy.{AreTidy, tidy_fold_list}
+use Rattle.elimination_theory.proofs.CasesExact.{says}
 use Rattle.case_theory.specs.CaseTree.{without_all, NameBlock, IsCaseUnder, SaysUnder}
 use Rattle.case_theory.specs.Under.{Lack, LeadUnder}
 use Rattle.case_theory.specs.Block.{ex_all, Somewhere}

@@ -3,38 +3,36 @@ use Rattle.std.proofs.Common.{◌≡◌, ℕ, true, false, None, Some, [], ◌�
 use Rattle.std.proofs.lemmas.Int.{ints}
 use Rattle.std.proofs.Math.IntN.{ℤ, pos, negsuc}
 use Rattle.exact_numbers.specs.Divides.{content_of, gcd_of, euclid}
-use Rattle.formula_meaning.specs.Context.{Fields, Integers}
-use Rattle.formula_meaning.specs.Formula.{Yes, One, And, Or, Ex, All, none, also}
-use Rattle.formula_meaning.specs.NegationNormal.{both}
-use Rattle.formula_meaning.specs.Form.{Form, coefficient, without, scale, combine}
-use Rattle.formula_meaning.specs.Sorted.{gathered}
-use Rattle.formula_meaning.specs.Atom.{Equals, Differs, Below, AtMost, Above, AtLeast, Compare, Congruent}
-use Rattle.formula_meaning.specs.Answer.{Answer, Exact, AboveBy, MinusInfinity}
-use Rattle.formula_meaning.specs.Tree.{Tree, Trees}
-use Rattle.formula_meaning.specs.Measured.{Nodes}
+use Rattle.logic_meaning.specs.Context.{Fields, Integers}
+use Rattle.logic_meaning.specs.Formula.{Yes, One, And, Or, Ex, All, none, also}
+use Rattle.logic_meaning.specs.NegationNormal.{both}
+use Rattle.logic_meaning.specs.Form.{Form, coefficient, without, scale, combine}
+use Rattle.logic_meaning.specs.Sorted.{gathered}
+use Rattle.logic_meaning.specs.Atom.{Equals, Differs, Below, AtMost, Above, AtLeast, Compare, Congruent}
+use Rattle.logic_meaning.specs.Answer.{Answer, Exact, AboveBy, MinusInfinity}
+use Rattle.logic_meaning.specs.Tree.{Tree, Trees}
+use Rattle.logic_meaning.specs.Measured.{Nodes}
 use Rattle.elimination_theory.specs.FieldsExample.{named, difference, multiple_of}
-use Rattle.elimination_theory.specs.FieldsPoints.{form_over}
-use Rattle.elimination_theory.specs.Answers.{zero_place}
-use Rattle.elimination_reference.specs.FromLinearForms.{quotient, residue_form}
-use Rattle.elimination_reference.specs.FromAtomNormal.{normal_atom, IsNormal}
-use Rattle.elimination_reference.specs.Reference.{reference}
-use Rattle.elimination_reference.specs.Cases.{case_names, case_matrix, reference_cases}
-use Rattle.elimination_reference.specs.Theorems.{IsTidy}
+use Rattle.logic_meaning.specs.FieldsPoints.{form_over}
+use Rattle.logic_meaning.specs.Answers.{zero_place, answers_of}
+use Rattle.logic_meaning.specs.Reduction.{quotient, residue_form}
+use Rattle.logic_meaning.specs.NormalForm.{normal_atom, IsNormal}
+use Rattle.logic_meaning.specs.Reference.{reference}
+use Rattle.logic_meaning.specs.Cases.{case_names, case_matrix, reference_cases}
+use Rattle.elimination_theory.specs.Theorems.{IsTidy}
 use Rattle.case_theory.specs.Worked.{IsNeverUnder}
 use Rattle.case_theory.specs.Children.{AreChildren}
 use Rattle.case_theory.proofs.Points.{root_point}
 use Rattle.case_theory.proofs.Children.{children_made}
-use Rattle.elimination_theory.specs.Answers.{answers_of}
 use Rattle.elimination_theory.specs.AnswersExample.{matrix, x_is_y, y_is_far}
 use Rattle.elimination_theory.proofs.AnswersExample.{period_of_the_branch}
-use Rattle.case_theory.specs.PutThrough.{Fit}
+use Rattle.case_theory.specs.PutThrough.{Fit, put_through}
 use Rattle.case_theory.proofs.Fit.{answers_fit}
 use Rattle.case_theory.proofs.Fallback.{lead_under}
-use Rattle.case_theory.specs.PutThrough.{put_through}
 use Rattle.case_theory.specs.CaseTree.{without_all}
-use Rattle.case_theory.specs.Roots.{IsRoot}
+use Rattle.logic_meaning.specs.Roots.{IsRoot}
 use Rattle.case_theory.specs.Fallback.{stop_of}
-use Rattle.case_theory.specs.Direct.{first_equation, direct_answer}
+use Rattle.logic_meaning.specs.Direct.{first_equation, direct_answer}
 
 -- n * x + m * y
 abbrev weighted : ℤ → ℕ → ℤ → ℕ → Form

@@ -1,39 +1,39 @@
 -- The cases of the reference elimination, as elimination promises them; and where it stops.
 use Rattle.std.proofs.Common.{◌≡◌, ℕ, suc, ◌+◌, ◌≤◌, nat_le, Bool, true, false, List, [], ◌∷◌, Option, Some, None, refl, ap, sym, ◌∙◌, subst, arith, inl, inr, ◌↔◌, nat_eq, if◌then◌else◌}
 use Rattle.std.proofs.lemmas.Bool.{leb-true, le-leb}
-use Rattle.formula_meaning.specs.Context.{Context}
-use Rattle.formula_meaning.specs.Formula.{Yes, No, One, Not, And, Or, Impl, Repl, Equiv, Ex, All, none, also}
-use Rattle.formula_meaning.specs.Every.{Every, FreeInSome}
-use Rattle.formula_meaning.specs.Atom.{Atom, Mentions}
-use Rattle.formula_meaning.specs.Some.{EachOf}
-use Rattle.formula_meaning.specs.Shape.{is_in, matrix_of}
-use Rattle.formula_meaning.specs.Plain.{IsNegationNormal, AreNegationNormal}
-use Rattle.formula_meaning.specs.declared.quantifier.Quantifier.TheVariants.{Exists}
-use Rattle.formula_meaning.specs.Sizes.{nodes, all_nodes}
-use Rattle.formula_meaning.specs.NegationNormal.{normal_form_of_not, normal_forms_of_not}
-use Rattle.formula_meaning.specs.Tree.{Tree, Trees, TrueAt, IsFree}
-use Rattle.formula_meaning.specs.Equivalence.{Equivalent}
-use Rattle.formula_meaning.specs.Measured.{Outcome, stopped, done, then_of, Counted, ◌>>=◌, pay, Stop, Nodes}
-use Rattle.formula_meaning.specs.Giving.{Gives}
-use Rattle.formula_meaning.proofs.Iff.{both_ways}
-use Rattle.formula_meaning.proofs.NormalShape.{normal_form_shape, normal_form_every}
-use Rattle.elimination_theory.specs.Answers.{Step, answers_of}
+use Rattle.logic_meaning.specs.Context.{Context}
+use Rattle.logic_meaning.specs.Formula.{Yes, No, One, Not, And, Or, Impl, Repl, Equiv, Ex, All, none, also}
+use Rattle.logic_meaning.specs.Every.{Every, FreeInSome}
+use Rattle.logic_meaning.specs.Atom.{Atom, Mentions}
+use Rattle.logic_meaning.specs.Some.{EachOf}
+use Rattle.logic_meaning.specs.Shape.{is_in, matrix_of}
+use Rattle.logic_meaning.specs.Plain.{IsNegationNormal, AreNegationNormal}
+use Rattle.logic_meaning.specs.declared.quantifier.Quantifier.TheVariants.{Exists}
+use Rattle.logic_meaning.specs.Sizes.{nodes, all_nodes}
+use Rattle.logic_meaning.specs.NegationNormal.{normal_form_of_not, normal_forms_of_not}
+use Rattle.logic_meaning.specs.Tree.{Tree, Trees, TrueAt, IsFree}
+use Rattle.formula_laws.specs.Equivalence.{Equivalent}
+use Rattle.logic_meaning.specs.Measured.{Outcome, stopped, done, then_of, Counted, ◌>>=◌, pay, Stop, Nodes}
+use Rattle.formula_laws.specs.Giving.{Gives}
+use Rattle.formula_laws.proofs.Iff.{both_ways}
+use Rattle.formula_laws.proofs.NormalShape.{normal_form_shape, normal_form_every}
+use Rattle.logic_meaning.specs.Answers.{Step, answers_of}
 use Rattle.elimination_theory.specs.AnswersTheorems.{Lead}
-use Rattle.elimination_reference.specs.FromAtomNormal.{IsNormal, negated_normal}
-use Rattle.formula_meaning.proofs.EachAtom.{every_map}
-use Rattle.elimination_reference.proofs.FromAtomNormal.{negated_normal_is}
-use Rattle.elimination_reference.specs.Reference.{reference, Branch, branch_trees, alone, together, normal_tree, turned, steps, closed, branches, leading_branches}
-use Rattle.elimination_reference.specs.Cases.{Case, case_of, cases_of, case_sign, case_formula, case_matrix, case_names, reference_cases}
-use Rattle.elimination_reference.specs.CasesOver.{AreOver}
-use Rattle.elimination_reference.specs.Theorems.{IsAnswerTo, IsTidy}
-use Rattle.elimination_reference.specs.AnswerParts.{guards_of, answer_names}
-use Rattle.elimination_reference.proofs.Always.{gives_then, gives_both, gives_map}
-use Rattle.elimination_reference.proofs.Branches.{step_names, IsBranch, AreBranches}
-use Rattle.elimination_reference.proofs.Sound.{leading_are, normal_normal_tree, reference_exact}
-use Rattle.elimination_reference.proofs.CasesExact.{guards_are, names_are, says, free}
-use Rattle.elimination_reference.proofs.Over.{cases_over}
-use Rattle.elimination_reference.proofs.Turned.{all_negated}
-use Rattle.elimination_reference.proofs.PutMatrix.{normal_stays, every_matrix}
+use Rattle.logic_meaning.specs.NormalForm.{IsNormal, negated_normal}
+use Rattle.formula_laws.proofs.EachAtom.{every_map}
+use Rattle.normal_atoms.proofs.NormalLaws.{negated_normal_is}
+use Rattle.logic_meaning.specs.Reference.{reference, Branch, branch_trees, alone, together, normal_tree, turned, steps, closed, branches, leading_branches}
+use Rattle.logic_meaning.specs.Cases.{Case, case_of, cases_of, case_sign, case_formula, case_matrix, case_names, reference_cases}
+use Rattle.elimination_theory.specs.CasesOver.{AreOver}
+use Rattle.elimination_theory.specs.Theorems.{IsAnswerTo, IsTidy}
+use Rattle.logic_meaning.specs.AnswerParts.{guards_of, answer_names}
+use Rattle.elimination_theory.proofs.Always.{gives_then, gives_both, gives_map}
+use Rattle.elimination_theory.proofs.Branches.{step_names, IsBranch, AreBranches}
+use Rattle.elimination_theory.proofs.Sound.{leading_are, normal_normal_tree, reference_exact}
+use Rattle.elimination_theory.proofs.CasesExact.{guards_are, names_are, says, free}
+use Rattle.elimination_theory.proofs.Over.{cases_over}
+use Rattle.elimination_theory.proofs.Turned.{all_negated}
+use Rattle.elimination_theory.proofs.PutMatrix.{normal_stays, every_matrix}
 use Rattle.case_theory.specs.CaseTree.{without_all, NameBlock, IsCaseUnder, IsCaseTree}
 use Rattle.case_theory.specs.Under.{Lack, LeadUnder}
 use Rattle.case_theory.specs.Fallback.{MatrixIsNormal, ReferenceGivesMatrix, ReferenceIsCaseTree, stop_of, IsDone, MatrixIsDone, StopsAreOne}

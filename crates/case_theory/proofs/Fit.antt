@@ -7,36 +7,36 @@ use Rattle.std.proofs.lemmas.Int.{ints}
 use Rattle.exact_numbers.proofs.Ring.{mul_comm, mul_assoc, mul_left_comm}
 use Rattle.exact_numbers.proofs.Order.{mul_not_negative, mul_negative, zero_product}
 use Rattle.exact_numbers.proofs.Divisibility.{divides_along, divides_mul, divides_mul_left}
-use Rattle.formula_meaning.specs.Context.{Context, Fields, Integers}
-use Rattle.formula_meaning.specs.Point.{Point, Of, move}
-use Rattle.formula_meaning.specs.Formula.{Yes, And}
-use Rattle.formula_meaning.specs.NegationNormal.{both}
-use Rattle.formula_meaning.specs.Every.{Every}
-use Rattle.formula_meaning.specs.Form.{coefficient}
-use Rattle.formula_meaning.specs.Atom.{Atom, Compare, Congruent}
-use Rattle.formula_meaning.specs.Plain.{IsPlain}
-use Rattle.formula_meaning.specs.Replaced.{replaced}
-use Rattle.formula_meaning.specs.Answer.{Place, Exact, AboveBy, BelowBy, PlusInfinity, MinusInfinity, Periodic}
-use Rattle.formula_meaning.specs.Tree.{Tree, TrueAt}
-use Rattle.formula_meaning.specs.Equivalence.{InContext}
-use Rattle.formula_meaning.proofs.Iff.{both_ways, turn_round}
-use Rattle.formula_meaning.proofs.EachAtom.{every_map, every_all}
-use Rattle.formula_meaning.proofs.TreeReplacing.{moved_of}
-use Rattle.elimination_theory.specs.Substitution.{beyond}
-use Rattle.elimination_theory.specs.IntegersSubstitution.{along, integer_atom}
+use Rattle.logic_meaning.specs.Context.{Context, Fields, Integers}
+use Rattle.logic_meaning.specs.Point.{Point, Of, move}
+use Rattle.logic_meaning.specs.Formula.{Yes, And}
+use Rattle.logic_meaning.specs.NegationNormal.{both}
+use Rattle.logic_meaning.specs.Every.{Every}
+use Rattle.logic_meaning.specs.Form.{coefficient}
+use Rattle.logic_meaning.specs.Atom.{Atom, Compare, Congruent}
+use Rattle.logic_meaning.specs.Plain.{IsPlain}
+use Rattle.logic_meaning.specs.Replaced.{replaced}
+use Rattle.logic_meaning.specs.Answer.{Place, Exact, AboveBy, BelowBy, PlusInfinity, MinusInfinity, Periodic}
+use Rattle.logic_meaning.specs.Tree.{Tree, TrueAt}
+use Rattle.formula_laws.specs.Equivalence.{InContext}
+use Rattle.formula_laws.proofs.Iff.{both_ways, turn_round}
+use Rattle.formula_laws.proofs.EachAtom.{every_map, every_all}
+use Rattle.formula_laws.proofs.TreeReplacing.{moved_of}
+use Rattle.logic_meaning.specs.Substitution.{beyond}
+use Rattle.logic_meaning.specs.IntegersSubstitution.{along, integer_atom}
 use Rattle.elimination_theory.specs.IntegersPointTrees.{integer_scale, integer_span}
 use Rattle.elimination_theory.specs.IntegersTheorems.{IsPeriodOf, Suits}
 use Rattle.elimination_theory.specs.Places.{IsPlaceFor, substitution}
-use Rattle.elimination_theory.specs.Answers.{Step, answers_of}
+use Rattle.logic_meaning.specs.Answers.{Step, answers_of}
 use Rattle.elimination_theory.proofs.Meets.{meets_map}
 use Rattle.elimination_theory.proofs.BothSubstitutions.{place_in, place_holds}
 use Rattle.elimination_theory.proofs.IntegerSides.{Fits}
 use Rattle.elimination_theory.proofs.IntegerSuffice.{formula_spanned, formula_fits}
 use Rattle.elimination_theory.proofs.OneStep.{result_becomes}
-use Rattle.elimination_reference.specs.FromAtomNormal.{normal_atom}
-use Rattle.simplified_formulas.specs.Simplifiable.{EquivalentUnder}
-use Rattle.elimination_reference.specs.Theorems.{IsTidy}
-use Rattle.elimination_reference.proofs.Tidy.{normaliser, tidy_in, result_tidy}
+use Rattle.logic_meaning.specs.NormalForm.{normal_atom}
+use Rattle.shape_theory.specs.Simplifiable.{EquivalentUnder}
+use Rattle.elimination_theory.specs.Theorems.{IsTidy}
+use Rattle.elimination_theory.proofs.Tidy.{normaliser, tidy_in, result_tidy}
 use Rattle.case_theory.specs.PutThrough.{AreTrue, put_through}
 use Rattle.case_theory.specs.Under.{Lack, LeadUnder, AnswersFit}
 use Rattle.case_theory.proofs.Moved.{lacking_stays}

@@ -1,14 +1,14 @@
 -- Where the theory is true at a point, the periods of a case fit the matrix at the points that differ from it in answered names.
 use Rattle.std.proofs.Common.{ℕ, List, [], ◌∷◌}
-use Rattle.formula_meaning.specs.Context.{Context}
-use Rattle.formula_meaning.specs.Point.{Point, Of}
-use Rattle.formula_meaning.specs.Some.{Among}
-use Rattle.formula_meaning.specs.Atom.{Says}
-use Rattle.formula_meaning.specs.Answer.{Answer}
-use Rattle.formula_meaning.specs.Tree.{Tree}
+use Rattle.logic_meaning.specs.Context.{Context}
+use Rattle.logic_meaning.specs.Point.{Point, Of}
+use Rattle.logic_meaning.specs.Some.{Among}
+use Rattle.logic_meaning.specs.Atom.{Says}
+use Rattle.logic_meaning.specs.Answer.{Answer}
+use Rattle.logic_meaning.specs.Tree.{Tree}
 use Rattle.elimination_theory.proofs.SomeListed.{each_among}
-use Rattle.elimination_reference.specs.Cases.{case_names}
-use Rattle.elimination_reference.specs.AnswerParts.{answer_names}
+use Rattle.logic_meaning.specs.Cases.{case_names}
+use Rattle.logic_meaning.specs.AnswerParts.{answer_names}
 use Rattle.case_theory.specs.PutThrough.{FitWhere}
 use Rattle.case_theory.specs.CaseTree.{without_all, IsCaseUnder, CasesFitAt}
 use Rattle.case_theory.specs.Under.{Lack}

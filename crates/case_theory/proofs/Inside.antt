@@ -1,19 +1,19 @@
 -- The branches of a block inside a formula.
 use Rattle.std.proofs.Common.{ℕ, List, [], ◌∷◌, inl, inr, ⊎_elim, ◌↔◌, sym, subst}
-use Rattle.formula_meaning.specs.Context.{Context}
-use Rattle.formula_meaning.specs.Point.{Point}
-use Rattle.formula_meaning.specs.Formula.{Or, none, also}
-use Rattle.formula_meaning.specs.Every.{EveryOf, FreeInSome}
-use Rattle.formula_meaning.specs.Plain.{ArePlain}
-use Rattle.formula_meaning.specs.Some.{SomeOf, Among, EachOf}
-use Rattle.formula_meaning.specs.Atom.{Atom, Mentions}
-use Rattle.formula_meaning.specs.Answer.{Place}
-use Rattle.formula_meaning.specs.Tree.{Tree, Trees, IsFree}
-use Rattle.formula_meaning.proofs.Listed.{among_right, among_append}
-use Rattle.elimination_theory.specs.Steps.{Result}
+use Rattle.logic_meaning.specs.Context.{Context}
+use Rattle.logic_meaning.specs.Point.{Point}
+use Rattle.logic_meaning.specs.Formula.{Or, none, also}
+use Rattle.logic_meaning.specs.Every.{EveryOf, FreeInSome}
+use Rattle.logic_meaning.specs.Plain.{ArePlain}
+use Rattle.logic_meaning.specs.Some.{SomeOf, Among, EachOf}
+use Rattle.logic_meaning.specs.Atom.{Atom, Mentions}
+use Rattle.logic_meaning.specs.Answer.{Place}
+use Rattle.logic_meaning.specs.Tree.{Tree, Trees, IsFree}
+use Rattle.formula_laws.proofs.Listed.{among_right, among_append}
+use Rattle.logic_meaning.specs.Steps.{Result}
 use Rattle.elimination_theory.proofs.SomeListed.{each_map, each_among}
-use Rattle.elimination_reference.specs.FromAtomNormal.{IsNormal}
-use Rattle.elimination_reference.specs.Theorems.{IsTidy, AreBranching}
+use Rattle.logic_meaning.specs.NormalForm.{IsNormal}
+use Rattle.elimination_theory.specs.Theorems.{IsTidy, AreBranching}
 use Rattle.case_theory.specs.Under.{Lack}
 use Rattle.case_theory.specs.Block.{Somewhere}
 use Rattle.case_theory.specs.Children.{IsChild}

@@ -1,21 +1,20 @@
 -- The leading block: the formula is the block over the matrix, and each of its names stands once.
 use Rattle.std.proofs.Common.{◌≡◌, ℕ, Bool, true, false, List, [], ◌∷◌, refl, ap, sym, ◌∙◌, subst, inl, inr, nat_eq, eq-eqb, if◌then◌else◌}
-use Rattle.formula_meaning.specs.Context.{Context, Fields}
-use Rattle.formula_meaning.specs.Formula.{Yes, No, One, Not, And, Or, Impl, Repl, Equiv, Ex, All}
-use Rattle.formula_meaning.specs.Some.{Among}
-use Rattle.formula_meaning.specs.StandsOnce.{StandsOnce}
-use Rattle.formula_meaning.specs.Shape.{is_in, block_of, matrix_of}
-use Rattle.formula_meaning.specs.declared.quantifier.Quantifier.TheVariants.{Exists}
-use Rattle.formula_meaning.specs.Tree.{Tree, IsFree}
-use Rattle.elimination_reference.specs.Reference.{normal_tree}
-use Rattle.elimination_reference.specs.Cases.{case_sign, case_formula, case_matrix, case_names}
-use Rattle.elimination_reference.proofs.CasesExact.{free}
-use Rattle.elimination_reference.proofs.Branches.{true_is_not_false}
-use Rattle.elimination_reference.proofs.PutMatrix.{block_turned, matrix_turned}
-use Rattle.elimination_reference.specs.Reference.{turned}
-use Rattle.formula_meaning.specs.Plain.{IsNegationNormal, leading}
-use Rattle.formula_meaning.proofs.NormalShape.{normal_form_shape}
-use Rattle.elimination_reference.specs.FromAtomNormal.{negated_normal}
+use Rattle.logic_meaning.specs.Context.{Context, Fields}
+use Rattle.logic_meaning.specs.Formula.{Yes, No, One, Not, And, Or, Impl, Repl, Equiv, Ex, All}
+use Rattle.logic_meaning.specs.Some.{Among}
+use Rattle.formula_laws.specs.StandsOnce.{StandsOnce}
+use Rattle.logic_meaning.specs.Shape.{is_in, block_of, matrix_of}
+use Rattle.logic_meaning.specs.declared.quantifier.Quantifier.TheVariants.{Exists}
+use Rattle.logic_meaning.specs.Tree.{Tree, IsFree}
+use Rattle.logic_meaning.specs.Reference.{normal_tree, turned}
+use Rattle.logic_meaning.specs.Cases.{case_sign, case_formula, case_matrix, case_names}
+use Rattle.elimination_theory.proofs.CasesExact.{free}
+use Rattle.elimination_theory.proofs.Branches.{true_is_not_false}
+use Rattle.elimination_theory.proofs.PutMatrix.{block_turned, matrix_turned}
+use Rattle.logic_meaning.specs.Plain.{IsNegationNormal, leading}
+use Rattle.formula_laws.proofs.NormalShape.{normal_form_shape}
+use Rattle.logic_meaning.specs.NormalForm.{negated_normal}
 use Rattle.case_theory.specs.Leading.{LeadingBlockIsSplit}
 use Rattle.case_theory.specs.Block.{ex_all}
 use Rattle.case_theory.proofs.Lists.{once_more}

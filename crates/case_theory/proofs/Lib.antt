@@ -20,3 +20,12 @@ pub mod Direct
 pub mod ClassSample
 mod Examples
 mod Run
+mod SampleTheoryExamples
+pub mod OneValue
+pub mod CriticalSet
+pub mod Moving
+pub mod Found
+pub mod Sampleable
+pub mod Reordered
+pub mod Known
+pub mod Cases

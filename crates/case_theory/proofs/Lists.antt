@@ -1,8 +1,8 @@
 -- Lists with each element once, and what is said of some or of each element of joined lists.
 use Rattle.std.proofs.Common.{◌≡◌, List, [], ◌∷◌, ◌++◌, sym, subst, refl, inl, inr, ⊎_elim, ◌↔◌, ℕ}
-use Rattle.formula_meaning.specs.Some.{SomeOf, Among, EachOf}
-use Rattle.formula_meaning.specs.StandsOnce.{StandsOnce}
-use Rattle.formula_meaning.proofs.Listed.{among_left, among_right, among_append}
+use Rattle.logic_meaning.specs.Some.{SomeOf, Among, EachOf}
+use Rattle.formula_laws.specs.StandsOnce.{StandsOnce}
+use Rattle.formula_laws.proofs.Listed.{among_left, among_right, among_append}
 use Rattle.elimination_theory.proofs.SomeListed.{some_left, some_right, some_either}
 use Rattle.case_theory.specs.Pending.{TakingOutLeavesRest}
 

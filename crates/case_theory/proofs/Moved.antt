@@ -4,17 +4,17 @@ use Rattle.std.proofs.Math.IntN.{ℤ, pos, ◌*ℤ◌}
 use Rattle.std.proofs.lemmas.Int.{ints}
 use Rattle.std.proofs.lemmas.Bool.{cases_eq}
 use Rattle.exact_numbers.proofs.Ring.{ring, mul_left_comm, one_mul, mul_one}
-use Rattle.formula_meaning.specs.Context.{Context, Allowed}
-use Rattle.formula_meaning.specs.Point.{Point, Of, move}
-use Rattle.formula_meaning.specs.Points.{IsSamePoint}
-use Rattle.formula_meaning.specs.Formula.{One, Ex}
-use Rattle.formula_meaning.specs.Some.{EachOf}
-use Rattle.formula_meaning.specs.Atom.{Atom, Mentions, Says}
-use Rattle.formula_meaning.specs.Tree.{Tree, TrueAt}
-use Rattle.formula_meaning.proofs.Values.{at_move, below_move, pos_mul}
-use Rattle.formula_meaning.proofs.TreeFiner.{tree_same_point}
-use Rattle.formula_meaning.proofs.TreeReplacing.{moved_of}
-use Rattle.formula_meaning.proofs.Equivalence.{one_allowed, absent_moved}
+use Rattle.logic_meaning.specs.Context.{Context, Allowed}
+use Rattle.logic_meaning.specs.Point.{Point, Of, move}
+use Rattle.formula_laws.specs.Points.{IsSamePoint}
+use Rattle.logic_meaning.specs.Formula.{One, Ex}
+use Rattle.logic_meaning.specs.Some.{EachOf}
+use Rattle.logic_meaning.specs.Atom.{Atom, Mentions, Says}
+use Rattle.logic_meaning.specs.Tree.{Tree, TrueAt}
+use Rattle.formula_laws.proofs.Values.{at_move, below_move, pos_mul}
+use Rattle.formula_laws.proofs.TreeFiner.{tree_same_point}
+use Rattle.formula_laws.proofs.TreeReplacing.{moved_of}
+use Rattle.formula_laws.proofs.Equivalence.{one_allowed, absent_moved}
 use Rattle.case_theory.specs.Block.{SameValue}
 
 module _ (p : Point ℕ) (x : ℕ) (k : ℤ) (m : ℕ) where

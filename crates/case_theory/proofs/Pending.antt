@@ -3,32 +3,32 @@ use Rattle.std.proofs.Common.{◌≡◌, ℕ, List, [], ◌∷◌, ◌++◌, sym
 use Rattle.std.proofs.Math.IntN.{pos}
 use Rattle.std.proofs.lemmas.Bool.{cases_eq}
 use Rattle.exact_numbers.proofs.Ring.{mul_comm}
-use Rattle.formula_meaning.specs.Context.{Context}
-use Rattle.formula_meaning.specs.Point.{Point, Of}
-use Rattle.formula_meaning.specs.Points.{finer, AgreeOn}
-use Rattle.formula_meaning.specs.Formula.{One, Ex}
-use Rattle.formula_meaning.specs.StandsOnce.{StandsOnce}
-use Rattle.formula_meaning.specs.Some.{SomeOf, Among, EachOf}
-use Rattle.formula_meaning.specs.Atom.{Atom}
-use Rattle.formula_meaning.specs.Answer.{Answer, Place}
-use Rattle.formula_meaning.specs.Tree.{Tree, TrueAt, IsFree}
-use Rattle.formula_meaning.proofs.Iff.{both_ways, turn_round}
-use Rattle.formula_meaning.proofs.Listed.{some_among, among_some, among_left, among_right, among_append}
-use Rattle.formula_meaning.proofs.FreeNames.{tree_agrees}
-use Rattle.formula_meaning.proofs.TreeFiner.{tree_finer}
+use Rattle.logic_meaning.specs.Context.{Context}
+use Rattle.logic_meaning.specs.Point.{Point, Of}
+use Rattle.formula_laws.specs.Points.{finer, AgreeOn}
+use Rattle.logic_meaning.specs.Formula.{One, Ex}
+use Rattle.formula_laws.specs.StandsOnce.{StandsOnce}
+use Rattle.logic_meaning.specs.Some.{SomeOf, Among, EachOf}
+use Rattle.logic_meaning.specs.Atom.{Atom}
+use Rattle.logic_meaning.specs.Answer.{Answer, Place}
+use Rattle.logic_meaning.specs.Tree.{Tree, TrueAt, IsFree}
+use Rattle.formula_laws.proofs.Iff.{both_ways, turn_round}
+use Rattle.formula_laws.proofs.Listed.{some_among, among_some, among_left, among_right, among_append}
+use Rattle.formula_laws.proofs.FreeNames.{tree_agrees}
+use Rattle.formula_laws.proofs.TreeFiner.{tree_finer}
 use Rattle.elimination_theory.specs.Places.{substitution}
-use Rattle.elimination_theory.specs.Steps.{Result}
-use Rattle.elimination_theory.specs.Answers.{answers_of}
+use Rattle.logic_meaning.specs.Steps.{Result}
+use Rattle.logic_meaning.specs.Answers.{answers_of}
 use Rattle.elimination_theory.proofs.SomeListed.{each_left, each_right, each_append, each_among, some_left, some_right, some_either, some_map, some_mapped, some_of_mapped}
-use Rattle.elimination_reference.specs.CasesOver.{AreOver}
-use Rattle.elimination_reference.proofs.Tidy.{tidy_in}
+use Rattle.elimination_theory.specs.CasesOver.{AreOver}
+use Rattle.elimination_theory.proofs.Tidy.{tidy_in}
 use Rattle.case_theory.specs.PutThrough.{AreTrue}
 use Rattle.case_theory.specs.Under.{Lack}
 use Rattle.case_theory.specs.Block.{DifferIn, Somewhere}
 use Rattle.case_theory.specs.Points.{IsPointFor, ArePointsFor}
 use Rattle.case_theory.specs.Children.{IsChild, AreChildren}
 use Rattle.case_theory.specs.Pending.{Pending, eliminated, ShareBlock, StaysFree, IsPending, PendingBegins, IsRest, child, children, PendingGoesOn, AreTogether, IsCovered, CoveredMayGo, OtherMayCover}
-use Rattle.elimination_reference.proofs.PutIn.{of_allowed}
+use Rattle.elimination_theory.proofs.PutIn.{of_allowed}
 use Rattle.case_theory.proofs.Lists.{once_right, once_fewer, once_apart, once_more, some_middle}
 use Rattle.case_theory.proofs.Block.{block_somewhere, somewhere_more, one_taken}
 use Rattle.case_theory.proofs.Under.{under_self}

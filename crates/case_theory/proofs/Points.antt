@@ -4,32 +4,32 @@ use Rattle.std.proofs.Math.IntN.{ℤ, pos, negsuc, ◌+ℤ◌, ◌*ℤ◌, neg_�
 use Rattle.std.proofs.lemmas.Int.{ints}
 use Rattle.exact_numbers.proofs.Ring.{neg_mul, mul_comm, mul_one, mul_zero, mul_assoc, mul_left_comm}
 use Rattle.exact_numbers.proofs.Order.{cancel_positive}
-use Rattle.formula_meaning.specs.Context.{Context, Fields, Integers}
-use Rattle.formula_meaning.specs.Point.{Point, Of, move}
-use Rattle.formula_meaning.specs.Formula.{Yes, No, One, Not, And, Or, Impl, Repl, Equiv, Ex, All, none, also}
-use Rattle.formula_meaning.specs.Truth.{AllTrue}
-use Rattle.formula_meaning.specs.Every.{FreeInSome}
-use Rattle.formula_meaning.specs.Form.{Form, value, coefficient, without, scale}
-use Rattle.formula_meaning.specs.Atom.{Atom, Compare, Equals, Mentions, Says}
-use Rattle.formula_meaning.specs.Plain.{IsPlain}
-use Rattle.formula_meaning.specs.Some.{Among}
-use Rattle.formula_meaning.specs.Answer.{Place, Exact, PlaceMentions, Holds}
-use Rattle.formula_meaning.specs.Tree.{Tree, Trees, TrueAt, IsFree}
-use Rattle.formula_meaning.specs.Equivalence.{InContext}
-use Rattle.formula_meaning.proofs.Iff.{both_ways, turn_round}
-use Rattle.formula_meaning.proofs.EachAtom.{every_all}
-use Rattle.formula_meaning.proofs.Values.{value_move, value_scale}
-use Rattle.formula_meaning.proofs.TreeFiner.{tree_same_point}
-use Rattle.formula_meaning.proofs.TreeReplacing.{moved_of}
-use Rattle.formula_meaning.proofs.Equivalence.{absent_dropped}
-use Rattle.elimination_theory.specs.declared.side.Side.{Side}
-use Rattle.elimination_theory.specs.Atoms.{atoms_of}
+use Rattle.logic_meaning.specs.Context.{Context, Fields, Integers}
+use Rattle.logic_meaning.specs.Point.{Point, Of, move}
+use Rattle.logic_meaning.specs.Formula.{Yes, No, One, Not, And, Or, Impl, Repl, Equiv, Ex, All, none, also}
+use Rattle.logic_meaning.specs.Truth.{AllTrue}
+use Rattle.logic_meaning.specs.Every.{FreeInSome}
+use Rattle.logic_meaning.specs.Form.{Form, value, coefficient, without, scale}
+use Rattle.logic_meaning.specs.Atom.{Atom, Compare, Equals, Mentions, Says}
+use Rattle.logic_meaning.specs.Plain.{IsPlain}
+use Rattle.logic_meaning.specs.Some.{Among}
+use Rattle.logic_meaning.specs.Answer.{Place, Exact, PlaceMentions, Holds}
+use Rattle.logic_meaning.specs.Tree.{Tree, Trees, TrueAt, IsFree}
+use Rattle.formula_laws.specs.Equivalence.{InContext}
+use Rattle.formula_laws.proofs.Iff.{both_ways, turn_round}
+use Rattle.formula_laws.proofs.EachAtom.{every_all}
+use Rattle.formula_laws.proofs.Values.{value_move, value_scale}
+use Rattle.formula_laws.proofs.TreeFiner.{tree_same_point}
+use Rattle.formula_laws.proofs.TreeReplacing.{moved_of}
+use Rattle.formula_laws.proofs.Equivalence.{absent_dropped}
+use Rattle.logic_meaning.specs.declared.side.Side.{Side}
+use Rattle.logic_meaning.specs.Atoms.{atoms_of}
 use Rattle.elimination_theory.specs.AtPlace.{at_place}
-use Rattle.elimination_theory.specs.FieldsPoints.{divisor_of, form_over}
+use Rattle.logic_meaning.specs.FieldsPoints.{divisor_of, form_over}
 use Rattle.elimination_theory.specs.IntegersTheorems.{Suits}
-use Rattle.elimination_theory.specs.BothTheories.{test_points}
+use Rattle.logic_meaning.specs.BothTheories.{test_points}
 use Rattle.elimination_theory.specs.Places.{IsPlaceFor, substitution}
-use Rattle.elimination_theory.specs.Answers.{zero_place}
+use Rattle.logic_meaning.specs.Answers.{zero_place}
 use Rattle.elimination_theory.proofs.LowestTerms.{lowest}
 use Rattle.elimination_theory.proofs.FieldsMeet.{positive_pos}
 use Rattle.elimination_theory.proofs.FieldsEliminated.{some_place}
@@ -38,7 +38,7 @@ use Rattle.elimination_theory.proofs.IntegersNames.{integer_point_names}
 use Rattle.elimination_theory.proofs.BothSubstitutions.{place_holds, point_suits, eliminated}
 use Rattle.elimination_theory.proofs.Answers.{absent_zero}
 use Rattle.case_theory.specs.Points.{IsPointFor, ArePointsFor, SidePointsSuffice, ZeroSuffices, IsConjunct, IsConjunctOfSome, RootSuffices}
-use Rattle.case_theory.specs.Roots.{root_over, IsRootOf}
+use Rattle.logic_meaning.specs.Roots.{root_over, IsRootOf}
 use Rattle.case_theory.proofs.Moved.{moved_same}
 use Rattle.case_theory.proofs.Lists.{each_from}
 use Rattle.case_theory.proofs.SameAtoms.{each_covered, some_covered, same_test_points}

@@ -4,21 +4,21 @@ use Rattle.std.proofs.Common.{◌≡◌, ℕ, true, List, [], ◌∷◌, refl, a
 use Rattle.std.proofs.Math.IntN.{pos, negsuc}
 use Rattle.std.proofs.lemmas.Int.{ints}
 use Rattle.exact_numbers.specs.Divides.{content_of, gcd_of, euclid}
-use Rattle.formula_meaning.specs.Context.{Integers}
-use Rattle.formula_meaning.specs.Formula.{One, And, Ex}
-use Rattle.formula_meaning.specs.NegationNormal.{both}
-use Rattle.formula_meaning.specs.Form.{Form, coefficient, without, scale, combine}
-use Rattle.formula_meaning.specs.Sorted.{gathered}
-use Rattle.formula_meaning.specs.Atom.{Atom, Equals, Above, Compare, Congruent}
-use Rattle.formula_meaning.specs.Answer.{Exact}
-use Rattle.formula_meaning.specs.Tree.{Tree, IsFree}
+use Rattle.logic_meaning.specs.Context.{Integers}
+use Rattle.logic_meaning.specs.Formula.{One, And, Ex}
+use Rattle.logic_meaning.specs.NegationNormal.{both}
+use Rattle.logic_meaning.specs.Form.{Form, coefficient, without, scale, combine}
+use Rattle.logic_meaning.specs.Sorted.{gathered}
+use Rattle.logic_meaning.specs.Atom.{Atom, Equals, Above, Compare, Congruent}
+use Rattle.logic_meaning.specs.Answer.{Exact}
+use Rattle.logic_meaning.specs.Tree.{Tree, IsFree}
 use Rattle.elimination_theory.specs.FieldsExample.{named, multiple_of}
-use Rattle.elimination_theory.specs.Answers.{zero_place}
-use Rattle.elimination_theory.specs.Steps.{result_at, Result}
-use Rattle.elimination_reference.specs.FromLinearForms.{quotient, residue_form}
-use Rattle.elimination_reference.specs.FromAtomNormal.{normal_atom, IsNormal}
-use Rattle.elimination_reference.specs.Cases.{Case}
-use Rattle.elimination_reference.specs.Theorems.{IsTidy}
+use Rattle.logic_meaning.specs.Answers.{zero_place}
+use Rattle.logic_meaning.specs.Steps.{result_at, Result}
+use Rattle.logic_meaning.specs.Reduction.{quotient, residue_form}
+use Rattle.logic_meaning.specs.NormalForm.{normal_atom, IsNormal}
+use Rattle.logic_meaning.specs.Cases.{Case}
+use Rattle.elimination_theory.specs.Theorems.{IsTidy}
 use Rattle.case_theory.specs.CaseTree.{without_all, IsCaseTree}
 use Rattle.case_theory.specs.Points.{ArePointsFor}
 use Rattle.case_theory.specs.Worked.{IsWorked}

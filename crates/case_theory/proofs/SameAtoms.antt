@@ -4,22 +4,22 @@ use Rattle.std.specs.Prelude.{◌≤ℤ◌}
 use Rattle.std.proofs.lemmas.Int.{ints}
 use Rattle.exact_numbers.specs.Divides.{Divides}
 use Rattle.exact_numbers.proofs.Divisibility.{divides_same, divides_both}
-use Rattle.formula_meaning.specs.Context.{Context, Fields, Integers}
-use Rattle.formula_meaning.specs.Some.{SomeOf, Among, EachOf}
-use Rattle.formula_meaning.specs.Distinct.{distinct}
-use Rattle.formula_meaning.specs.Form.{coefficient}
-use Rattle.formula_meaning.specs.Atom.{Atom, form_of}
-use Rattle.formula_meaning.specs.TheoryAtoms.{AtomIn}
-use Rattle.formula_meaning.specs.Answer.{Place, same_place}
-use Rattle.formula_meaning.specs.Tree.{Tree}
-use Rattle.formula_meaning.specs.Equivalence.{InContext}
-use Rattle.formula_meaning.proofs.Listed.{some_among, among_some, among_left, among_right, among_append, among_flat_map, flat_map_among, among_distinct, distinct_among}
-use Rattle.formula_meaning.proofs.Same.{place_same}
-use Rattle.elimination_theory.specs.declared.side.Side.{Side}
-use Rattle.elimination_theory.specs.Atoms.{atoms_of}
-use Rattle.elimination_theory.specs.BothTheories.{test_points}
-use Rattle.elimination_theory.specs.FieldsPoints.{infinity_of, atom_points, field_points_of}
-use Rattle.elimination_theory.specs.IntegersPoints.{scale_of, own_span, atom_starts, class_points, next_points, points_with, integer_points_of}
+use Rattle.logic_meaning.specs.Context.{Context, Fields, Integers}
+use Rattle.logic_meaning.specs.Some.{SomeOf, Among, EachOf}
+use Rattle.logic_meaning.specs.Distinct.{distinct}
+use Rattle.logic_meaning.specs.Form.{coefficient}
+use Rattle.logic_meaning.specs.Atom.{Atom, form_of}
+use Rattle.formula_laws.specs.TheoryAtoms.{AtomIn}
+use Rattle.logic_meaning.specs.Answer.{Place, same_place}
+use Rattle.logic_meaning.specs.Tree.{Tree}
+use Rattle.formula_laws.specs.Equivalence.{InContext}
+use Rattle.formula_laws.proofs.Listed.{some_among, among_some, among_left, among_right, among_append, among_flat_map, flat_map_among, among_distinct, distinct_among}
+use Rattle.formula_laws.proofs.Same.{place_same}
+use Rattle.logic_meaning.specs.declared.side.Side.{Side}
+use Rattle.logic_meaning.specs.Atoms.{atoms_of}
+use Rattle.logic_meaning.specs.BothTheories.{test_points}
+use Rattle.logic_meaning.specs.FieldsPoints.{infinity_of, atom_points, field_points_of}
+use Rattle.logic_meaning.specs.IntegersPoints.{scale_of, own_span, atom_starts, class_points, next_points, points_with, integer_points_of}
 use Rattle.elimination_theory.specs.IntegersTheorems.{IsMultipleOf, SpansAtom}
 use Rattle.elimination_theory.proofs.IntegerLeast.{scale_is_least, span_is_least}
 use Rattle.elimination_theory.proofs.SomeListed.{each_among, atoms_of_every}

@@ -1,24 +1,25 @@
 -- Tidy formulas and those that are simplified under assumptions.
 use Rattle.std.proofs.Common.{List}
 use Rattle.exact_numbers.specs.Limit.{InLimit}
-use Rattle.formula_meaning.specs.Context.{Context}
-use Rattle.formula_meaning.specs.Formula.{Yes, No, One, Not, And, Or, Impl, Repl, Equiv, Ex, All, none, also}
-use Rattle.formula_meaning.specs.Every.{Every, EveryOf}
-use Rattle.formula_meaning.specs.Atom.{Atom, Mentions, form_of}
-use Rattle.formula_meaning.specs.Shape.{IsQuantifierFree, AreQuantifierFree}
-use Rattle.formula_meaning.specs.Plain.{IsPlain, ArePlain}
-use Rattle.formula_meaning.specs.declared.junction.Junction.{Junction}
-use Rattle.formula_meaning.specs.declared.junction.Junction.TheVariants.{Conjunction, Disjunction}
-use Rattle.formula_meaning.specs.Tree.{Tree, Trees}
-use Rattle.elimination_reference.specs.FromAtomNormal.{IsNormal, negated_normal}
-use Rattle.simplified_formulas.specs.FromAtomMerging.{IsNormalWithin, IsKept}
-use Rattle.simplified_formulas.specs.Contained.{contains}
-use Rattle.simplified_formulas.specs.Orderly.{IsOrderly, AreOrderly}
-use Rattle.simplified_formulas.specs.Reduced.{MayStand, under, ReducedInside, MembersReduced}
-use Rattle.simplified_formulas.specs.Trees.{LeavesOpen, IsReduced}
-use Rattle.simplified_formulas.specs.Simplifiable.{simplified_under}
-use Rattle.simplified_formulas.proofs.TreeLaws.{keeps_truth, keeps_shape, brings_no_name, brings_no_quantifier, is_reduced}
-use Rattle.elimination_reference.specs.Theorems.{IsProper, IsBranching, AreBranching}
+use Rattle.logic_meaning.specs.Context.{Context}
+use Rattle.logic_meaning.specs.Formula.{Yes, No, One, Not, And, Or, Impl, Repl, Equiv, Ex, All, none, also}
+use Rattle.logic_meaning.specs.Every.{Every, EveryOf}
+use Rattle.logic_meaning.specs.Atom.{Atom, Mentions, form_of}
+use Rattle.logic_meaning.specs.Shape.{IsQuantifierFree, AreQuantifierFree}
+use Rattle.logic_meaning.specs.Plain.{IsPlain, ArePlain}
+use Rattle.logic_meaning.specs.declared.junction.Junction.{Junction}
+use Rattle.logic_meaning.specs.declared.junction.Junction.TheVariants.{Conjunction, Disjunction}
+use Rattle.logic_meaning.specs.Tree.{Tree, Trees}
+use Rattle.logic_meaning.specs.NormalForm.{IsNormal, negated_normal}
+use Rattle.normal_atoms.specs.Computed.{IsNormalWithin}
+use Rattle.logic_meaning.specs.Merging.{IsKept}
+use Rattle.logic_meaning.specs.Contained.{contains}
+use Rattle.shape_theory.specs.Orderly.{IsOrderly, AreOrderly}
+use Rattle.logic_meaning.specs.Reduced.{MayStand, under, ReducedInside, MembersReduced}
+use Rattle.logic_meaning.specs.Trees.{LeavesOpen, IsReduced}
+use Rattle.shape_theory.specs.Simplifiable.{simplified_under}
+use Rattle.shape_theory.proofs.TreeLaws.{keeps_truth, keeps_shape, brings_no_name, brings_no_quantifier, is_reduced}
+use Rattle.elimination_theory.specs.Theorems.{IsProper, IsBranching, AreBranching}
 use Rattle.case_theory.specs.Simplified.{HasConstantsWithin, TidyIsSimplifiable, ReducedIsTidy, SimplifyingIsWork}
 use Rattle.case_theory.proofs.Under.{under_turn}
 

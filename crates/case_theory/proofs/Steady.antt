@@ -1,11 +1,11 @@
 -- What the reference elimination does at some cost so far it does at a lesser one, with the same result.
 use Rattle.std.proofs.Common.{◌≡◌, ℕ, ◌+◌, ◌≤◌, nat_le, Bool, true, false, List, refl, ap, sym, subst, arith, if◌then◌else◌}
 use Rattle.std.proofs.lemmas.Bool.{leb-true, le-leb}
-use Rattle.formula_meaning.specs.Context.{Context}
-use Rattle.formula_meaning.specs.Tree.{Tree}
-use Rattle.formula_meaning.specs.Measured.{Outcome, stopped, done, then_of, Counted, ◌>>=◌, give, pay, within, Nodes}
-use Rattle.elimination_reference.proofs.Through.{through_branches}
-use Rattle.elimination_reference.specs.Reference.{branches}
+use Rattle.logic_meaning.specs.Context.{Context}
+use Rattle.logic_meaning.specs.Tree.{Tree}
+use Rattle.logic_meaning.specs.Measured.{Outcome, stopped, done, then_of, Counted, ◌>>=◌, give, pay, within, Nodes}
+use Rattle.elimination_theory.proofs.Through.{through_branches}
+use Rattle.logic_meaning.specs.Reference.{branches}
 
 -- where the first has a result, the second has it too, at no greater cost
 abbrev pub IsNoDearer : {A : Type 0} → Outcome (A × ℕ) → Outcome (A × ℕ) → Type 0

@@ -1,17 +1,17 @@
 -- Answers that are found one after the other under assumptions.
 use Rattle.std.proofs.Common.{ℕ, List, [], ◌∷◌, ◌↔◌, nat_eq}
-use Rattle.formula_meaning.specs.Context.{Context}
-use Rattle.formula_meaning.specs.Point.{Point, Of, move}
-use Rattle.formula_meaning.specs.Atom.{Atom}
-use Rattle.formula_meaning.specs.Answer.{Holds, MeetsAll}
-use Rattle.formula_meaning.specs.Tree.{Tree, TrueAt}
-use Rattle.formula_meaning.proofs.Iff.{both_ways}
-use Rattle.formula_meaning.proofs.TreeReplacing.{moved_of}
+use Rattle.logic_meaning.specs.Context.{Context}
+use Rattle.logic_meaning.specs.Point.{Point, Of, move}
+use Rattle.logic_meaning.specs.Atom.{Atom}
+use Rattle.logic_meaning.specs.Answer.{Holds, MeetsAll}
+use Rattle.logic_meaning.specs.Tree.{Tree, TrueAt}
+use Rattle.formula_laws.proofs.Iff.{both_ways}
+use Rattle.formula_laws.proofs.TreeReplacing.{moved_of}
 use Rattle.elimination_theory.specs.AtPlace.{at_place}
-use Rattle.elimination_theory.specs.Answers.{Step, answers_of}
+use Rattle.logic_meaning.specs.Answers.{Step, answers_of}
 use Rattle.elimination_theory.proofs.Meets.{meets_map}
 use Rattle.elimination_theory.proofs.BothSubstitutions.{place_in, place_holds}
-use Rattle.simplified_formulas.specs.Simplifiable.{EquivalentUnder}
+use Rattle.shape_theory.specs.Simplifiable.{EquivalentUnder}
 use Rattle.case_theory.specs.PutThrough.{AreTrue}
 use Rattle.case_theory.specs.Under.{MakesUnder, AnswersHoldUnder}
 use Rattle.case_theory.proofs.Moved.{lacking_stays}

@@ -3,12 +3,12 @@ use Rattle.std.proofs.Common.{◌≡◌, ℕ, Bool, true, false, not, List, [], 
 use Rattle.std.proofs.Math.IntN.{pos}
 use Rattle.std.specs.Ordering.{int_eq}
 use Rattle.std.specs.Cmp.{signed_Decides}
-use Rattle.formula_meaning.specs.Form.{coefficient}
-use Rattle.formula_meaning.specs.Atom.{Atom, Mentions, form_of}
-use Rattle.formula_meaning.specs.Some.{EachOf}
-use Rattle.simplified_formulas.specs.Atoms.{without}
-use Rattle.simplified_formulas.specs.Contained.{contains}
-use Rattle.elimination_reference.proofs.Branches.{true_is_not_false}
+use Rattle.logic_meaning.specs.Form.{coefficient}
+use Rattle.logic_meaning.specs.Atom.{Atom, Mentions, form_of}
+use Rattle.logic_meaning.specs.Some.{EachOf}
+use Rattle.logic_meaning.specs.AtomKit.{without}
+use Rattle.logic_meaning.specs.Contained.{contains}
+use Rattle.elimination_theory.proofs.Branches.{true_is_not_false}
 use Rattle.case_theory.specs.CaseTree.{without_all}
 use Rattle.case_theory.specs.Under.{Lack}
 use Rattle.elimination_theory.proofs.SomeListed.{each_map}

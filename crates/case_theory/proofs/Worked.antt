@@ -1,22 +1,22 @@
 -- Formulas worked on under assumptions: lists and negations.
 use Rattle.std.proofs.Common.{ℕ, List, inl, inr, ⊎_elim, ◌↔◌, nat_eq}
-use Rattle.formula_meaning.specs.Context.{Context}
-use Rattle.formula_meaning.specs.Point.{Point, Of, move}
-use Rattle.formula_meaning.specs.Formula.{And, Or, none, also}
-use Rattle.formula_meaning.specs.Every.{Every, FreeInSome}
-use Rattle.formula_meaning.specs.Atom.{Atom, Says, Mentions}
-use Rattle.formula_meaning.specs.Fold.{joined, fold_list}
-use Rattle.formula_meaning.specs.declared.junction.Junction.{Junction}
-use Rattle.formula_meaning.specs.declared.junction.Junction.TheVariants.{Conjunction, Disjunction}
-use Rattle.formula_meaning.specs.NegationNormal.{normal_form_of_not}
-use Rattle.formula_meaning.specs.Tree.{Tree, Trees, TrueAt, IsFree}
-use Rattle.formula_meaning.proofs.Iff.{both_ways, turn_round, not_iff}
-use Rattle.formula_meaning.proofs.Fold.{free_of_members, fold_list_has, fold_list_true}
+use Rattle.logic_meaning.specs.Context.{Context}
+use Rattle.logic_meaning.specs.Point.{Point, Of, move}
+use Rattle.logic_meaning.specs.Formula.{And, Or, none, also}
+use Rattle.logic_meaning.specs.Every.{Every, FreeInSome}
+use Rattle.logic_meaning.specs.Atom.{Atom, Says, Mentions}
+use Rattle.logic_meaning.specs.Fold.{joined, fold_list}
+use Rattle.logic_meaning.specs.declared.junction.Junction.{Junction}
+use Rattle.logic_meaning.specs.declared.junction.Junction.TheVariants.{Conjunction, Disjunction}
+use Rattle.logic_meaning.specs.NegationNormal.{normal_form_of_not}
+use Rattle.logic_meaning.specs.Tree.{Tree, Trees, TrueAt, IsFree}
+use Rattle.formula_laws.proofs.Iff.{both_ways, turn_round, not_iff}
+use Rattle.formula_laws.proofs.Fold.{free_of_members, fold_list_has, fold_list_true}
 use Rattle.elimination_theory.proofs.BothTheories.{decided}
-use Rattle.elimination_reference.specs.FromAtomNormal.{IsNormal, negated_normal}
-use Rattle.simplified_formulas.specs.Simplifiable.{EquivalentUnder}
-use Rattle.elimination_reference.proofs.Tidy.{AreTidy, tidy_in, tidy_fold_list, tidy_turned}
-use Rattle.elimination_reference.proofs.Turning.{normal_inside, normal_truths, turned_brings, turned_keeps}
+use Rattle.logic_meaning.specs.NormalForm.{IsNormal, negated_normal}
+use Rattle.shape_theory.specs.Simplifiable.{EquivalentUnder}
+use Rattle.elimination_theory.proofs.Tidy.{AreTidy, tidy_in, tidy_fold_list, tidy_turned}
+use Rattle.elimination_theory.proofs.Turning.{normal_inside, normal_truths, turned_brings, turned_keeps}
 use Rattle.case_theory.specs.Worked.{IsWorked, AreWorked, WorkingGoesOn}
 use Rattle.case_theory.proofs.Without.{without_all_each}
 use Rattle.case_theory.proofs.Under.{under_self, under_then}

@@ -1,10 +1,10 @@
 -- A block of ex, in which the order of the names does not matter.
 use Rattle.std.specs.Prelude.{◌≡◌, ℕ, pos, ◌*ℤ◌, ◌↔◌, List, [], ◌∷◌}
-use Rattle.formula_meaning.specs.Context.{Context}
-use Rattle.formula_meaning.specs.Point.{Point, Of}
-use Rattle.formula_meaning.specs.Formula.{Ex}
-use Rattle.formula_meaning.specs.Some.{Among}
-use Rattle.formula_meaning.specs.Tree.{Tree, TrueAt}
+use Rattle.logic_meaning.specs.Context.{Context}
+use Rattle.logic_meaning.specs.Point.{Point, Of}
+use Rattle.logic_meaning.specs.Formula.{Ex}
+use Rattle.logic_meaning.specs.Some.{Among}
+use Rattle.logic_meaning.specs.Tree.{Tree, TrueAt}
 
 -- ex of each name, the first outermost
 abbrev pub ex_all : List ℕ → Tree → Tree

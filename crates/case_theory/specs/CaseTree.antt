@@ -1,22 +1,22 @@
 -- What elimination promises: cases of the leading block of a formula, under assumptions.
 use Rattle.std.specs.Prelude.{ℕ, Bool, true, false, ◌↔◌, List, [], ◌∷◌}
-use Rattle.formula_meaning.specs.Context.{Context}
-use Rattle.formula_meaning.specs.Point.{Point, Of}
-use Rattle.formula_meaning.specs.Formula.{Not, Or}
-use Rattle.formula_meaning.specs.Some.{Among, EachOf}
-use Rattle.formula_meaning.specs.StandsOnce.{StandsOnce}
-use Rattle.formula_meaning.specs.Atom.{Atom}
-use Rattle.formula_meaning.specs.Answer.{Answer, Holds}
-use Rattle.formula_meaning.specs.Tree.{Tree, TrueAt, IsFree}
-use Rattle.elimination_theory.specs.BothTheories.{IsPlaceIn}
-use Rattle.simplified_formulas.specs.Atoms.{without}
-use Rattle.simplified_formulas.specs.Contained.{contains}
-use Rattle.simplified_formulas.specs.Simplifiable.{EquivalentUnder}
-use Rattle.elimination_reference.specs.Reference.{normal_tree}
-use Rattle.elimination_reference.specs.Cases.{Case, case_sign, case_matrix, case_names}
-use Rattle.elimination_reference.specs.CasesOver.{AreOver}
-use Rattle.elimination_reference.specs.Theorems.{IsTidy}
-use Rattle.elimination_reference.specs.AnswerParts.{guards_of, answer_names}
+use Rattle.logic_meaning.specs.Context.{Context}
+use Rattle.logic_meaning.specs.Point.{Point, Of}
+use Rattle.logic_meaning.specs.Formula.{Not, Or}
+use Rattle.logic_meaning.specs.Some.{Among, EachOf}
+use Rattle.formula_laws.specs.StandsOnce.{StandsOnce}
+use Rattle.logic_meaning.specs.Atom.{Atom}
+use Rattle.logic_meaning.specs.Answer.{Answer, Holds}
+use Rattle.logic_meaning.specs.Tree.{Tree, TrueAt, IsFree}
+use Rattle.logic_meaning.specs.BothTheories.{IsPlaceIn}
+use Rattle.logic_meaning.specs.AtomKit.{without}
+use Rattle.logic_meaning.specs.Contained.{contains}
+use Rattle.shape_theory.specs.Simplifiable.{EquivalentUnder}
+use Rattle.logic_meaning.specs.Reference.{normal_tree}
+use Rattle.logic_meaning.specs.Cases.{Case, case_sign, case_matrix, case_names}
+use Rattle.elimination_theory.specs.CasesOver.{AreOver}
+use Rattle.elimination_theory.specs.Theorems.{IsTidy}
+use Rattle.logic_meaning.specs.AnswerParts.{guards_of, answer_names}
 use Rattle.case_theory.specs.PutThrough.{AreTrue, Fit, FitAt}
 
 -- the atoms that have no name of the block

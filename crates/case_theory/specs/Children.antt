@@ -1,18 +1,18 @@
 -- What becomes of a branch at each of the points of a name, under assumptions.
 use Rattle.std.specs.Prelude.{ℕ, List, [], ◌∷◌, ◌++◌}
-use Rattle.formula_meaning.specs.Context.{Context}
-use Rattle.formula_meaning.specs.Point.{Point, Of}
-use Rattle.formula_meaning.specs.Formula.{Ex}
-use Rattle.formula_meaning.specs.Some.{SomeOf, Among, EachOf}
-use Rattle.formula_meaning.specs.Atom.{Atom}
-use Rattle.formula_meaning.specs.Answer.{Place}
-use Rattle.formula_meaning.specs.Tree.{Tree, TrueAt, IsFree}
+use Rattle.logic_meaning.specs.Context.{Context}
+use Rattle.logic_meaning.specs.Point.{Point, Of}
+use Rattle.logic_meaning.specs.Formula.{Ex}
+use Rattle.logic_meaning.specs.Some.{SomeOf, Among, EachOf}
+use Rattle.logic_meaning.specs.Atom.{Atom}
+use Rattle.logic_meaning.specs.Answer.{Place}
+use Rattle.logic_meaning.specs.Tree.{Tree, TrueAt, IsFree}
 use Rattle.elimination_theory.specs.Places.{substitution}
-use Rattle.elimination_theory.specs.Steps.{Result, result_at}
-use Rattle.elimination_theory.specs.Answers.{zero_place}
-use Rattle.elimination_reference.specs.FromAtomNormal.{normal_atom}
-use Rattle.simplified_formulas.specs.Simplifiable.{EquivalentUnder}
-use Rattle.elimination_reference.specs.Theorems.{IsTidy}
+use Rattle.logic_meaning.specs.Steps.{Result, result_at}
+use Rattle.logic_meaning.specs.Answers.{zero_place}
+use Rattle.logic_meaning.specs.NormalForm.{normal_atom}
+use Rattle.shape_theory.specs.Simplifiable.{EquivalentUnder}
+use Rattle.elimination_theory.specs.Theorems.{IsTidy}
 use Rattle.case_theory.specs.PutThrough.{AreTrue}
 use Rattle.case_theory.specs.Points.{IsPointFor}
 use Rattle.case_theory.specs.Worked.{IsWorked, IsNeverUnder}

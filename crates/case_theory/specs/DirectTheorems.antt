@@ -1,13 +1,13 @@
 -- What is proved of direct answers.
 use Rattle.std.specs.Prelude.{ℕ}
-use Rattle.formula_meaning.specs.Context.{Fields}
-use Rattle.formula_meaning.specs.Every.{Every}
-use Rattle.formula_meaning.specs.Answer.{Place}
-use Rattle.formula_meaning.specs.Tree.{Tree, Trees}
-use Rattle.elimination_reference.specs.FromAtomNormal.{IsNormal}
-use Rattle.elimination_reference.specs.Theorems.{IsAnswerTo}
+use Rattle.logic_meaning.specs.Context.{Fields}
+use Rattle.logic_meaning.specs.Every.{Every}
+use Rattle.logic_meaning.specs.Answer.{Place}
+use Rattle.logic_meaning.specs.Tree.{Tree, Trees}
+use Rattle.logic_meaning.specs.NormalForm.{IsNormal}
+use Rattle.elimination_theory.specs.Theorems.{IsAnswerTo}
 use Rattle.case_theory.specs.Simplified.{HasConstantsWithin}
-use Rattle.case_theory.specs.Direct.{IsDirect, direct_answer}
+use Rattle.logic_meaning.specs.Direct.{IsDirect, direct_answer}
 
 -- Of a formula over normal atoms that is direct, this is an answer.
 abbrev pub DirectAnswerIsExact : Type 0

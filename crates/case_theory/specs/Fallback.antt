@@ -1,16 +1,16 @@
 -- The reference elimination as a way to such cases: where another way passes a limit, its cases are taken.
 use Rattle.std.specs.Prelude.{◌≡◌, ℕ, List, Option, Some, None}
-use Rattle.formula_meaning.specs.Context.{Context}
-use Rattle.formula_meaning.specs.Every.{Every}
-use Rattle.formula_meaning.specs.Atom.{Atom}
-use Rattle.formula_meaning.specs.Tree.{Tree}
-use Rattle.formula_meaning.specs.Equivalence.{Equivalent}
-use Rattle.formula_meaning.specs.Measured.{Stop, Outcome, stopped, done}
-use Rattle.formula_meaning.specs.Giving.{Gives}
-use Rattle.elimination_reference.specs.FromAtomNormal.{IsNormal}
-use Rattle.elimination_reference.specs.Reference.{reference}
-use Rattle.elimination_reference.specs.Cases.{case_matrix, reference_cases}
-use Rattle.elimination_reference.specs.Theorems.{IsTidy}
+use Rattle.logic_meaning.specs.Context.{Context}
+use Rattle.logic_meaning.specs.Every.{Every}
+use Rattle.logic_meaning.specs.Atom.{Atom}
+use Rattle.logic_meaning.specs.Tree.{Tree}
+use Rattle.formula_laws.specs.Equivalence.{Equivalent}
+use Rattle.logic_meaning.specs.Measured.{Stop, Outcome, stopped, done}
+use Rattle.formula_laws.specs.Giving.{Gives}
+use Rattle.logic_meaning.specs.NormalForm.{IsNormal}
+use Rattle.logic_meaning.specs.Reference.{reference}
+use Rattle.logic_meaning.specs.Cases.{case_matrix, reference_cases}
+use Rattle.elimination_theory.specs.Theorems.{IsTidy}
 use Rattle.case_theory.specs.CaseTree.{IsCaseTree}
 
 -- The cases of the reference are such a case tree under every theory, with every tidy matrix that is equivalent to the case matrix.

@@ -1,17 +1,17 @@
 -- The list of branches of a block inside a formula. No answers are owed there, so that the steps of a branch say nothing, and a
 -- branch that is a disjunction may be split.
 use Rattle.std.specs.Prelude.{◌≡◌, ℕ, List, [], ◌∷◌, ◌++◌}
-use Rattle.formula_meaning.specs.Context.{Context}
-use Rattle.formula_meaning.specs.Formula.{Or, none, also}
-use Rattle.formula_meaning.specs.Fold.{fold_list}
-use Rattle.formula_meaning.specs.declared.junction.Junction.TheVariants.{Disjunction}
-use Rattle.formula_meaning.specs.Some.{Among, EachOf}
-use Rattle.formula_meaning.specs.StandsOnce.{StandsOnce}
-use Rattle.formula_meaning.specs.Atom.{Atom}
-use Rattle.formula_meaning.specs.Answer.{Place}
-use Rattle.formula_meaning.specs.Tree.{Tree, Trees, IsFree}
-use Rattle.elimination_theory.specs.Steps.{Result}
-use Rattle.elimination_reference.specs.Theorems.{IsTidy}
+use Rattle.logic_meaning.specs.Context.{Context}
+use Rattle.logic_meaning.specs.Formula.{Or, none, also}
+use Rattle.logic_meaning.specs.Fold.{fold_list}
+use Rattle.logic_meaning.specs.declared.junction.Junction.TheVariants.{Disjunction}
+use Rattle.logic_meaning.specs.Some.{Among, EachOf}
+use Rattle.formula_laws.specs.StandsOnce.{StandsOnce}
+use Rattle.logic_meaning.specs.Atom.{Atom}
+use Rattle.logic_meaning.specs.Answer.{Place}
+use Rattle.logic_meaning.specs.Tree.{Tree, Trees, IsFree}
+use Rattle.logic_meaning.specs.Steps.{Result}
+use Rattle.elimination_theory.specs.Theorems.{IsTidy}
 use Rattle.case_theory.specs.CaseTree.{without_all}
 use Rattle.case_theory.specs.Under.{Lack}
 use Rattle.case_theory.specs.Block.{ex_all}

@@ -1,12 +1,12 @@
 -- The leading block of a formula, split from its matrix.
 use Rattle.std.specs.Prelude.{◌≡◌, ℕ, [], nat_eq}
-use Rattle.formula_meaning.specs.Some.{Among}
-use Rattle.formula_meaning.specs.StandsOnce.{StandsOnce}
-use Rattle.formula_meaning.specs.Shape.{block_of, matrix_of}
-use Rattle.formula_meaning.specs.Plain.{leading}
-use Rattle.formula_meaning.specs.Tree.{Tree, IsFree}
-use Rattle.elimination_reference.specs.Reference.{normal_tree, turned}
-use Rattle.elimination_reference.specs.Cases.{case_sign, case_formula, case_matrix, case_names}
+use Rattle.logic_meaning.specs.Some.{Among}
+use Rattle.formula_laws.specs.StandsOnce.{StandsOnce}
+use Rattle.logic_meaning.specs.Shape.{block_of, matrix_of}
+use Rattle.logic_meaning.specs.Plain.{leading}
+use Rattle.logic_meaning.specs.Tree.{Tree, IsFree}
+use Rattle.logic_meaning.specs.Reference.{normal_tree, turned}
+use Rattle.logic_meaning.specs.Cases.{case_sign, case_formula, case_matrix, case_names}
 use Rattle.case_theory.specs.Block.{ex_all}
 
 -- The names are those of the leading block of the negation normal form, each once, and the matrix is what stands behind it, or its

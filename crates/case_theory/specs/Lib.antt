@@ -2,7 +2,6 @@ pub mod PutThrough
 pub mod CaseTree
 pub mod Under
 pub mod Block
-pub mod Roots
 pub mod Points
 pub mod Worked
 pub mod Children
@@ -11,8 +10,9 @@ pub mod Inside
 pub mod Leading
 pub mod Fallback
 pub mod Simplified
-pub mod Direct
 pub mod DirectTheorems
 pub mod ClassSample
-pub mod FromEliminationReference
-pub mod FromSimplifiedFormulas
+pub mod Samples
+pub mod CriticalSet
+pub mod Known
+pub mod Reordered

@@ -1,23 +1,23 @@
 -- The list of branches of a block that are worked on: how it begins, one step for a name, and what it is at its end.
 use Rattle.std.specs.Prelude.{◌≡◌, ℕ, ◌↔◌, List, [], ◌∷◌, ◌++◌, map}
-use Rattle.formula_meaning.specs.Context.{Context}
-use Rattle.formula_meaning.specs.Point.{Point, Of}
-use Rattle.formula_meaning.specs.Every.{Every}
-use Rattle.formula_meaning.specs.Formula.{Yes, none, also}
-use Rattle.formula_meaning.specs.Fold.{fold_list}
-use Rattle.formula_meaning.specs.declared.junction.Junction.TheVariants.{Disjunction}
-use Rattle.formula_meaning.specs.Some.{SomeOf, Among, EachOf}
-use Rattle.formula_meaning.specs.StandsOnce.{StandsOnce}
-use Rattle.formula_meaning.specs.Atom.{Atom}
-use Rattle.formula_meaning.specs.Answer.{Place}
-use Rattle.formula_meaning.specs.Tree.{Tree, Trees, TrueAt, IsFree}
-use Rattle.elimination_theory.specs.Answers.{Step, answers_of}
-use Rattle.elimination_theory.specs.Steps.{Result}
-use Rattle.elimination_reference.specs.FromAtomNormal.{IsNormal}
-use Rattle.elimination_reference.specs.Cases.{Case, case_matrix, case_names}
-use Rattle.elimination_reference.specs.CasesOver.{AreOver}
-use Rattle.elimination_reference.specs.Theorems.{IsTidy}
-use Rattle.elimination_reference.specs.AnswerParts.{answer_names}
+use Rattle.logic_meaning.specs.Context.{Context}
+use Rattle.logic_meaning.specs.Point.{Point, Of}
+use Rattle.logic_meaning.specs.Every.{Every}
+use Rattle.logic_meaning.specs.Formula.{Yes, none, also}
+use Rattle.logic_meaning.specs.Fold.{fold_list}
+use Rattle.logic_meaning.specs.declared.junction.Junction.TheVariants.{Disjunction}
+use Rattle.logic_meaning.specs.Some.{SomeOf, Among, EachOf}
+use Rattle.formula_laws.specs.StandsOnce.{StandsOnce}
+use Rattle.logic_meaning.specs.Atom.{Atom}
+use Rattle.logic_meaning.specs.Answer.{Place}
+use Rattle.logic_meaning.specs.Tree.{Tree, Trees, TrueAt, IsFree}
+use Rattle.logic_meaning.specs.Answers.{Step, answers_of}
+use Rattle.logic_meaning.specs.Steps.{Result}
+use Rattle.logic_meaning.specs.NormalForm.{IsNormal}
+use Rattle.logic_meaning.specs.Cases.{Case, case_matrix, case_names}
+use Rattle.elimination_theory.specs.CasesOver.{AreOver}
+use Rattle.elimination_theory.specs.Theorems.{IsTidy}
+use Rattle.logic_meaning.specs.AnswerParts.{answer_names}
 use Rattle.case_theory.specs.PutThrough.{AreTrue}
 use Rattle.case_theory.specs.CaseTree.{without_all, IsCaseTree}
 use Rattle.case_theory.specs.Under.{Lack, LeadUnder}

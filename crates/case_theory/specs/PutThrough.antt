@@ -1,14 +1,14 @@
 -- A formula with all answers put in, and when the periods of the answers fit it.
 use Rattle.std.specs.Prelude.{ℕ, ◌↔◌, List, [], ◌∷◌}
-use Rattle.formula_meaning.specs.Context.{Context}
-use Rattle.formula_meaning.specs.Point.{Point, Of}
-use Rattle.formula_meaning.specs.Some.{Among, EachOf}
-use Rattle.formula_meaning.specs.Atom.{Atom, Says}
-use Rattle.formula_meaning.specs.Answer.{Answer, Holds}
-use Rattle.formula_meaning.specs.Tree.{Tree, TrueAt}
-use Rattle.elimination_theory.specs.Steps.{result_at}
-use Rattle.elimination_reference.specs.FromAtomNormal.{normal_atom}
-use Rattle.elimination_reference.specs.AnswerParts.{answer_names}
+use Rattle.logic_meaning.specs.Context.{Context}
+use Rattle.logic_meaning.specs.Point.{Point, Of}
+use Rattle.logic_meaning.specs.Some.{Among, EachOf}
+use Rattle.logic_meaning.specs.Atom.{Atom, Says}
+use Rattle.logic_meaning.specs.Answer.{Answer, Holds}
+use Rattle.logic_meaning.specs.Tree.{Tree, TrueAt}
+use Rattle.logic_meaning.specs.Steps.{result_at}
+use Rattle.logic_meaning.specs.NormalForm.{normal_atom}
+use Rattle.logic_meaning.specs.AnswerParts.{answer_names}
 use Rattle.case_theory.specs.Block.{DifferIn}
 
 -- each atom is true at the point

@@ -1,14 +1,14 @@
 -- Tidy formulas and those that are simplified under assumptions.
 use Rattle.std.specs.Prelude.{List}
 use Rattle.exact_numbers.specs.Limit.{InLimit}
-use Rattle.formula_meaning.specs.Context.{Context}
-use Rattle.formula_meaning.specs.Every.{Every}
-use Rattle.formula_meaning.specs.Atom.{Atom, form_of}
-use Rattle.formula_meaning.specs.Shape.{IsQuantifierFree}
-use Rattle.formula_meaning.specs.Tree.{Tree}
-use Rattle.simplified_formulas.specs.Trees.{IsReduced}
-use Rattle.simplified_formulas.specs.Simplifiable.{IsSimplifiable, AreAssumable, simplified_under}
-use Rattle.elimination_reference.specs.Theorems.{IsTidy}
+use Rattle.logic_meaning.specs.Context.{Context}
+use Rattle.logic_meaning.specs.Every.{Every}
+use Rattle.logic_meaning.specs.Atom.{Atom, form_of}
+use Rattle.logic_meaning.specs.Shape.{IsQuantifierFree}
+use Rattle.logic_meaning.specs.Tree.{Tree}
+use Rattle.logic_meaning.specs.Trees.{IsReduced}
+use Rattle.shape_theory.specs.Simplifiable.{IsSimplifiable, AreAssumable, simplified_under}
+use Rattle.elimination_theory.specs.Theorems.{IsTidy}
 use Rattle.case_theory.specs.Worked.{IsWorked}
 
 -- the constant of each atom is within the limit of exact_numbers

@@ -1,17 +1,17 @@
 -- Answers that are found one after the other under assumptions that have none of the answered names.
 use Rattle.std.specs.Prelude.{ℕ, ◌↔◌, List, [], ◌∷◌}
-use Rattle.formula_meaning.specs.Context.{Context}
-use Rattle.formula_meaning.specs.Point.{Point, Of}
-use Rattle.formula_meaning.specs.Plain.{IsPlain}
-use Rattle.formula_meaning.specs.Some.{EachOf}
-use Rattle.formula_meaning.specs.Atom.{Atom, Mentions}
-use Rattle.formula_meaning.specs.Answer.{Holds}
-use Rattle.formula_meaning.specs.Tree.{Tree, TrueAt}
-use Rattle.formula_meaning.specs.Equivalence.{InContext}
+use Rattle.logic_meaning.specs.Context.{Context}
+use Rattle.logic_meaning.specs.Point.{Point, Of}
+use Rattle.logic_meaning.specs.Plain.{IsPlain}
+use Rattle.logic_meaning.specs.Some.{EachOf}
+use Rattle.logic_meaning.specs.Atom.{Atom, Mentions}
+use Rattle.logic_meaning.specs.Answer.{Holds}
+use Rattle.logic_meaning.specs.Tree.{Tree, TrueAt}
+use Rattle.formula_laws.specs.Equivalence.{InContext}
 use Rattle.elimination_theory.specs.Places.{IsPlaceFor, substitution}
-use Rattle.elimination_theory.specs.Answers.{Step, answers_of}
-use Rattle.simplified_formulas.specs.Simplifiable.{EquivalentUnder}
-use Rattle.elimination_reference.specs.Theorems.{IsTidy}
+use Rattle.logic_meaning.specs.Answers.{Step, answers_of}
+use Rattle.shape_theory.specs.Simplifiable.{EquivalentUnder}
+use Rattle.elimination_theory.specs.Theorems.{IsTidy}
 use Rattle.case_theory.specs.PutThrough.{AreTrue, Fit}
 
 -- none of the atoms has the name

@@ -1,7 +1,7 @@
 // What is proved of elimination by cases. Each function does nothing: its contract is the law, and its check is the proof.
-ghost use Rattle.formula_meaning.specs.Context.{Context};
-ghost use Rattle.formula_meaning.specs.Atom.{Atom};
-ghost use Rattle.formula_meaning.specs.Tree.{Tree};
+ghost use Rattle.logic_meaning.specs.Context.{Context};
+ghost use Rattle.logic_meaning.specs.Atom.{Atom};
+ghost use Rattle.logic_meaning.specs.Tree.{Tree};
 ghost use Rattle.case_theory.specs.CaseTree.{CasesFitAt};
 ghost use Rattle.case_theory.specs.Under.{AnswersHoldUnder, AnswersFit};
 ghost use Rattle.case_theory.specs.Block.{BlockHasNoOrder};

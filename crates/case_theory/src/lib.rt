@@ -3,6 +3,7 @@
 #![tactic(auto)]
 
 mod laws;
+mod sample_theory_laws;
 
 pub use laws::{
     answers_fit, answers_hold_under_assumptions, block_has_no_order, block_is_worked,
@@ -11,4 +12,9 @@ pub use laws::{
     inside_is_worked, leading_block_is_split, matrix_is_done, pending_begins, pending_ends,
     pending_goes_on, reference_is_case_tree, root_suffices, side_points_suffice,
     simplifying_is_work, stops_are_one, taking_out_leaves_rest, working_goes_on, zero_suffices,
+};
+pub use sample_theory_laws::{
+    case_gives_sample, case_is_sampleable, case_tree_gives_sample, known_are_the_point,
+    lead_is_sampleable, sample_of_answers_is_true, value_is_of_atoms, value_is_sample,
+    value_is_true,
 };

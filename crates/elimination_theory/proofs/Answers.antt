@@ -3,20 +3,20 @@ use Rattle.std.proofs.Common.{◌≡◌, ℕ, [], ◌∷◌, refl, ◌∙◌, ar
 use Rattle.std.proofs.Math.IntN.{pos}
 use Rattle.std.proofs.lemmas.Int.{ints}
 use Rattle.exact_numbers.proofs.Ring.{zero_mul}
-use Rattle.formula_meaning.specs.Context.{Context, Fields, Integers}
-use Rattle.formula_meaning.specs.Point.{Point, Of, move}
-use Rattle.formula_meaning.specs.Form.{value}
-use Rattle.formula_meaning.specs.Answer.{MeetsAll, Holds}
-use Rattle.formula_meaning.specs.Tree.{Tree, TrueAt, IsFree}
-use Rattle.formula_meaning.proofs.EachAtom.{every_all}
-use Rattle.formula_meaning.proofs.Equivalence.{absent_moved, one_allowed}
-use Rattle.formula_meaning.proofs.TreeReplacing.{moved_of}
+use Rattle.logic_meaning.specs.Context.{Context, Fields, Integers}
+use Rattle.logic_meaning.specs.Point.{Point, Of, move}
+use Rattle.logic_meaning.specs.Form.{value}
+use Rattle.logic_meaning.specs.Answer.{MeetsAll, Holds}
+use Rattle.logic_meaning.specs.Tree.{Tree, TrueAt, IsFree}
+use Rattle.formula_laws.proofs.EachAtom.{every_all}
+use Rattle.formula_laws.proofs.Equivalence.{absent_moved, one_allowed}
+use Rattle.formula_laws.proofs.TreeReplacing.{moved_of}
 use Rattle.elimination_theory.specs.AtPlace.{at_place}
 use Rattle.elimination_theory.specs.IntegersTheorems.{Suits}
 use Rattle.elimination_theory.specs.Places.{IsPlaceFor}
-use Rattle.elimination_theory.specs.Answers.{Step, answers_of, zero_place}
+use Rattle.logic_meaning.specs.Answers.{Step, answers_of, zero_place}
 use Rattle.elimination_theory.specs.AnswersTheorems.{Makes, AnswersHold, AbsentNameIsZero}
-use Rattle.formula_meaning.proofs.Iff.{both_ways}
+use Rattle.formula_laws.proofs.Iff.{both_ways}
 use Rattle.elimination_theory.proofs.Meets.{meets_map}
 use Rattle.elimination_theory.proofs.BothSubstitutions.{place_in, place_holds}
 

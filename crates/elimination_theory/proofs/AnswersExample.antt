@@ -2,11 +2,11 @@
 use Rattle.std.proofs.Common.{◌≡◌, ℕ, ℤ, pos, negsuc, ◌+ℤ◌, ◌*ℤ◌, arith, refl, subst, inl, inr, ⊎_elim, ◌↔◌}
 use Rattle.std.proofs.lemmas.Int.{ints}
 use Rattle.exact_numbers.specs.Divides.{Divides}
-use Rattle.formula_meaning.specs.Context.{Integers}
-use Rattle.formula_meaning.specs.Point.{Point, Of}
-use Rattle.formula_meaning.specs.Formula.{Yes}
-use Rattle.formula_meaning.specs.Form.{value, coefficient, without, combine, plus}
-use Rattle.formula_meaning.specs.Tree.{TrueAt}
+use Rattle.logic_meaning.specs.Context.{Integers}
+use Rattle.logic_meaning.specs.Point.{Point, Of}
+use Rattle.logic_meaning.specs.Formula.{Yes}
+use Rattle.logic_meaning.specs.Form.{value, coefficient, without, combine, plus}
+use Rattle.logic_meaning.specs.Tree.{TrueAt}
 use Rattle.elimination_theory.specs.FieldsExample.{named}
 use Rattle.elimination_theory.specs.Places.{substitution}
 use Rattle.elimination_theory.specs.AnswersTheorems.{Makes}

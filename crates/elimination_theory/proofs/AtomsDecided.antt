@@ -7,11 +7,11 @@ use Rattle.exact_numbers.specs.Divides.{Divides, residue_of}
 use Rattle.exact_numbers.proofs.Ring.{mul_comm}
 use Rattle.exact_numbers.proofs.Order.{by_order, by_less, by_zero, mul_positive}
 use Rattle.exact_numbers.proofs.Floor.{divides_from_residue, residue_of_multiple}
-use Rattle.formula_meaning.specs.Context.{Context, Fields, Integers}
-use Rattle.formula_meaning.specs.Point.{Point, Of}
-use Rattle.formula_meaning.specs.Form.{Form, value}
-use Rattle.formula_meaning.specs.Atom.{Atom, Compare, Congruent, Relation, Equals, Differs, Below, AtMost, Above, AtLeast, Relates, Says, IsMultiple, opposite_relation}
-use Rattle.formula_meaning.specs.TheoryAtoms.{AtomIn, opposite}
+use Rattle.logic_meaning.specs.Context.{Context, Fields, Integers}
+use Rattle.logic_meaning.specs.Point.{Point, Of}
+use Rattle.logic_meaning.specs.Form.{Form, value}
+use Rattle.logic_meaning.specs.Atom.{Atom, Compare, Congruent, Relation, Equals, Differs, Below, AtMost, Above, AtLeast, Relates, Says, IsMultiple, opposite_relation}
+use Rattle.formula_laws.specs.TheoryAtoms.{AtomIn, opposite}
 
 abbrev pub IsDecided : Type 0 → Type 0
 IsDecided P = P ⊎ ¬ P

@@ -1,20 +1,20 @@
 -- What a formula becomes: equivalents built by and and or, put together from those of its parts.
 use Rattle.std.proofs.Common.{ℕ, List, [], ◌∷◌, refl, inl, inr, ⊎_elim}
-use Rattle.formula_meaning.specs.Context.{Context}
-use Rattle.formula_meaning.specs.Formula.{And, Or, Ex, none, also}
-use Rattle.formula_meaning.specs.Every.{EveryOf, FreeInSome}
-use Rattle.formula_meaning.specs.Some.{Among}
-use Rattle.formula_meaning.specs.Plain.{IsPlain, ArePlain}
-use Rattle.formula_meaning.specs.Fold.{folded}
-use Rattle.formula_meaning.specs.Atom.{Atom, Mentions}
-use Rattle.formula_meaning.specs.TheoryAtoms.{AtomIn}
-use Rattle.formula_meaning.specs.Tree.{Tree, Trees, IsFree}
-use Rattle.formula_meaning.specs.Equivalence.{InContext, Equivalent, AreEquivalent}
-use Rattle.formula_meaning.proofs.Fold.{folded_plain, folded_every, folded_free}
-use Rattle.formula_meaning.proofs.Equivalence.{equivalent_self, equivalent_then, all_equivalent, some_equivalent, ex_equivalent}
-use Rattle.elimination_theory.specs.declared.side.Side.{Side}
+use Rattle.logic_meaning.specs.Context.{Context}
+use Rattle.logic_meaning.specs.Formula.{And, Or, Ex, none, also}
+use Rattle.logic_meaning.specs.Every.{EveryOf, FreeInSome}
+use Rattle.logic_meaning.specs.Some.{Among}
+use Rattle.logic_meaning.specs.Plain.{IsPlain, ArePlain}
+use Rattle.logic_meaning.specs.Fold.{folded}
+use Rattle.logic_meaning.specs.Atom.{Atom, Mentions}
+use Rattle.formula_laws.specs.TheoryAtoms.{AtomIn}
+use Rattle.logic_meaning.specs.Tree.{Tree, Trees, IsFree}
+use Rattle.formula_laws.specs.Equivalence.{InContext, Equivalent, AreEquivalent}
+use Rattle.formula_laws.proofs.Fold.{folded_plain, folded_every, folded_free}
+use Rattle.formula_laws.proofs.Equivalence.{equivalent_self, equivalent_then, all_equivalent, some_equivalent, ex_equivalent}
+use Rattle.logic_meaning.specs.declared.side.Side.{Side}
 use Rattle.elimination_theory.specs.Decided.{IsEliminated, AreEliminated}
-use Rattle.elimination_theory.specs.Steps.{normalised, Result, step}
+use Rattle.logic_meaning.specs.Steps.{normalised, Result, step}
 use Rattle.elimination_theory.specs.StepTheorems.{IsNormaliser, trees_left, IsResult}
 use Rattle.elimination_theory.proofs.Simple.{simple_from, replaced_plain}
 use Rattle.elimination_theory.proofs.OneStep.{folded_equivalent, normalised_equivalent, normalised_names, steps_exact}

@@ -1,18 +1,18 @@
 -- The theorems on substitution and test points, with the theory as an argument.
 use Rattle.std.proofs.Common.{ℕ, ⊎_elim, ◌↔◌}
-use Rattle.formula_meaning.specs.Context.{Context, Fields, Integers}
-use Rattle.formula_meaning.specs.Point.{Point, Of}
-use Rattle.formula_meaning.specs.Formula.{Or, Ex}
-use Rattle.formula_meaning.specs.Some.{Among}
-use Rattle.formula_meaning.specs.Plain.{IsPlain}
-use Rattle.formula_meaning.specs.Answer.{Place, Holds}
-use Rattle.formula_meaning.specs.Tree.{Tree, TrueAt, IsFree}
-use Rattle.formula_meaning.specs.Equivalence.{InContext, Equivalent}
-use Rattle.elimination_theory.specs.declared.side.Side.{Side}
-use Rattle.elimination_theory.specs.Atoms.{atoms_of}
+use Rattle.logic_meaning.specs.Context.{Context, Fields, Integers}
+use Rattle.logic_meaning.specs.Point.{Point, Of}
+use Rattle.logic_meaning.specs.Formula.{Or, Ex}
+use Rattle.logic_meaning.specs.Some.{Among}
+use Rattle.logic_meaning.specs.Plain.{IsPlain}
+use Rattle.logic_meaning.specs.Answer.{Place, Holds}
+use Rattle.logic_meaning.specs.Tree.{Tree, TrueAt, IsFree}
+use Rattle.formula_laws.specs.Equivalence.{InContext, Equivalent}
+use Rattle.logic_meaning.specs.declared.side.Side.{Side}
+use Rattle.logic_meaning.specs.Atoms.{atoms_of}
 use Rattle.elimination_theory.specs.Elimination.{trees_at}
 use Rattle.elimination_theory.specs.AtPlace.{at_place}
-use Rattle.elimination_theory.specs.BothTheories.{IsPlaceIn, test_points}
+use Rattle.logic_meaning.specs.BothTheories.{IsPlaceIn, test_points}
 use Rattle.elimination_theory.specs.Places.{IsPlaceFor, substitution}
 use Rattle.elimination_theory.proofs.FieldsSubstitute.{substitution_exact}
 use Rattle.elimination_theory.proofs.FieldsSuffice.{field_point_place}

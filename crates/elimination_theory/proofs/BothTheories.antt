@@ -1,6 +1,6 @@
 -- What elimination says of truth itself, in both theories.
-use Rattle.formula_meaning.specs.Context.{Context, Fields, Integers}
-use Rattle.elimination_theory.specs.declared.side.Side.TheVariants.{Lower}
+use Rattle.logic_meaning.specs.Context.{Context, Fields, Integers}
+use Rattle.logic_meaning.specs.declared.side.Side.TheVariants.{Lower}
 use Rattle.elimination_theory.specs.Elimination.{field_elimination, integer_elimination}
 use Rattle.elimination_theory.specs.Decided.{QuantifierIsEliminated, QuantifiersAreEliminated, OneQuantifierSuffices, TruthIsDecided, NegationNormalFormKeepsTruth, AllIsNotExNot}
 use Rattle.elimination_theory.proofs.Decided.{truth_decided, quantifiers_eliminated}

@@ -1,18 +1,18 @@
 -- Truth is decided, by elimination: every formula has an equivalent built by and and or, whose truth is decided.
 use Rattle.std.proofs.Common.{ℕ, ◌⊎◌, inl, inr, ⊎_elim, ◌↔◌, nat_eq}
-use Rattle.formula_meaning.specs.Context.{Context}
-use Rattle.formula_meaning.specs.Point.{Point, Of, move}
-use Rattle.formula_meaning.specs.Formula.{Yes, No, One, Not, And, Or, Impl, Repl, Equiv, Ex, All, none, also}
-use Rattle.formula_meaning.specs.Truth.{AllTrue, SomeTrue}
-use Rattle.formula_meaning.specs.Every.{EveryOf, FreeInSome}
-use Rattle.formula_meaning.specs.Plain.{IsPlain, ArePlain}
-use Rattle.formula_meaning.specs.NegationNormal.{normal_forms_of_not, both}
-use Rattle.formula_meaning.specs.Atom.{Says, Mentions}
-use Rattle.formula_meaning.specs.TheoryAtoms.{AtomIn, opposite}
-use Rattle.formula_meaning.specs.Tree.{Tree, Trees, TrueAt, IsFree}
-use Rattle.formula_meaning.specs.Equivalence.{InContext, Equivalent, negated}
-use Rattle.formula_meaning.proofs.TreeNormal.{tree_normal_free, opposite_in}
-use Rattle.formula_meaning.proofs.TreeReplacing.{moved_of}
+use Rattle.logic_meaning.specs.Context.{Context}
+use Rattle.logic_meaning.specs.Point.{Point, Of, move}
+use Rattle.logic_meaning.specs.Formula.{Yes, No, One, Not, And, Or, Impl, Repl, Equiv, Ex, All, none, also}
+use Rattle.logic_meaning.specs.Truth.{AllTrue, SomeTrue}
+use Rattle.logic_meaning.specs.Every.{EveryOf, FreeInSome}
+use Rattle.logic_meaning.specs.Plain.{IsPlain, ArePlain}
+use Rattle.logic_meaning.specs.NegationNormal.{normal_forms_of_not, both}
+use Rattle.logic_meaning.specs.Atom.{Says, Mentions}
+use Rattle.formula_laws.specs.TheoryAtoms.{AtomIn, opposite}
+use Rattle.logic_meaning.specs.Tree.{Tree, Trees, TrueAt, IsFree}
+use Rattle.formula_laws.specs.Equivalence.{InContext, Equivalent, negated}
+use Rattle.formula_laws.proofs.TreeNormal.{tree_normal_free, opposite_in}
+use Rattle.formula_laws.proofs.TreeReplacing.{moved_of}
 use Rattle.elimination_theory.specs.Decided.{QuantifierIsEliminated, QuantifiersAreEliminated, TruthIsDecided}
 use Rattle.elimination_theory.proofs.AtomsDecided.{IsDecided, atom_decided, atom_opposite}
 

@@ -3,24 +3,24 @@ use Rattle.std.proofs.Common.{◌≡◌, ℕ, true, false, List, [], ◌∷◌, 
 use Rattle.std.proofs.Math.IntN.{ℤ, pos, negsuc, neg_ℤ}
 use Rattle.std.proofs.lemmas.Int.{ints}
 use Rattle.exact_numbers.specs.Divides.{Divides, content_of, gcd_of, lcm_of, euclid}
-use Rattle.formula_meaning.specs.Context.{Context, Fields, Integers}
-use Rattle.formula_meaning.specs.Point.{Point, move}
-use Rattle.formula_meaning.specs.Formula.{Yes, No, One, And}
-use Rattle.formula_meaning.specs.NegationNormal.{both}
-use Rattle.formula_meaning.specs.Form.{Form, coefficient, without, scale, combine, plus, value}
-use Rattle.formula_meaning.specs.Atom.{Relation, Equals, Differs, Below, AtMost, Above, AtLeast, Atom, Compare, Congruent}
-use Rattle.formula_meaning.specs.Answer.{Exact, AboveBy, BelowBy, MinusInfinity, Periodic}
-use Rattle.formula_meaning.specs.Tree.{Tree}
-use Rattle.elimination_theory.specs.declared.side.Side.TheVariants.{Lower, Upper}
+use Rattle.logic_meaning.specs.Context.{Context, Fields, Integers}
+use Rattle.logic_meaning.specs.Point.{Point, move}
+use Rattle.logic_meaning.specs.Formula.{Yes, No, One, And}
+use Rattle.logic_meaning.specs.NegationNormal.{both}
+use Rattle.logic_meaning.specs.Form.{Form, coefficient, without, scale, combine, plus, value}
+use Rattle.logic_meaning.specs.Atom.{Relation, Equals, Differs, Below, AtMost, Above, AtLeast, Atom, Compare, Congruent}
+use Rattle.logic_meaning.specs.Answer.{Exact, AboveBy, BelowBy, MinusInfinity, Periodic}
+use Rattle.logic_meaning.specs.Tree.{Tree}
+use Rattle.logic_meaning.specs.declared.side.Side.TheVariants.{Lower, Upper}
 use Rattle.elimination_theory.specs.FieldsExample.{open_interval, named, difference, multiple_of}
-use Rattle.elimination_theory.specs.Substitution.{beyond, form_at}
-use Rattle.elimination_theory.specs.FieldsPoints.{form_over, comparison_points, field_points_of}
-use Rattle.elimination_theory.specs.FieldsSubstitution.{beside}
-use Rattle.elimination_theory.specs.IntegersSubstitution.{integer_atom}
-use Rattle.elimination_theory.specs.IntegersPoints.{scale_of, own_span, comparison_starts, integer_count_of}
+use Rattle.logic_meaning.specs.Substitution.{beyond, form_at}
+use Rattle.logic_meaning.specs.FieldsPoints.{form_over, comparison_points, field_points_of}
+use Rattle.logic_meaning.specs.FieldsSubstitution.{beside}
+use Rattle.logic_meaning.specs.IntegersSubstitution.{integer_atom}
+use Rattle.logic_meaning.specs.IntegersPoints.{scale_of, own_span, comparison_starts, integer_count_of}
 use Rattle.elimination_theory.specs.IntegersSample.{IsIntegerSample}
 use Rattle.elimination_theory.specs.Samples.{form_with, tree_with, KeepsPeriods}
-use Rattle.elimination_theory.specs.Steps.{step}
+use Rattle.logic_meaning.specs.Steps.{step}
 use Rattle.elimination_theory.specs.StepTheorems.{IsNormaliser}
 
 abbrev relations : List Relation

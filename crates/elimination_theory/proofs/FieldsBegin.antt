@@ -2,26 +2,26 @@
 use Rattle.std.proofs.Common.{◌≡◌, ℕ, suc, zero, ◌<◌, sym, refl, arith, inl, inr, ⊎_elim, ◌↔◌, nat_eq}
 use Rattle.std.proofs.Math.IntN.{ℤ, pos, negsuc, ◌*ℤ◌}
 use Rattle.std.specs.Prelude.{◌<ℤ◌}
-use Rattle.formula_meaning.specs.Context.{Fields}
-use Rattle.formula_meaning.specs.Point.{Point, move}
-use Rattle.formula_meaning.specs.Form.{Form, value, coefficient, without, scale}
-use Rattle.formula_meaning.specs.Formula.{Yes, No, One, Not, And, Or, Impl, Repl, Equiv, Ex, All, none, also}
-use Rattle.formula_meaning.specs.Truth.{AllTrue, SomeTrue}
-use Rattle.formula_meaning.specs.Every.{Every, EveryOf}
-use Rattle.formula_meaning.specs.Plain.{IsPlain, ArePlain}
-use Rattle.formula_meaning.specs.Atom.{Compare, Congruent, Relation, Equals, Differs, Below, AtMost, Above, AtLeast, Relates, Says, mirrored}
-use Rattle.formula_meaning.specs.TheoryAtoms.{AtomIn}
-use Rattle.formula_meaning.specs.Answer.{Place, Exact, AboveBy, BelowBy, PlusInfinity, MinusInfinity, Periodic}
-use Rattle.formula_meaning.specs.Tree.{Tree, Trees, TrueAt}
-use Rattle.formula_meaning.specs.Equivalence.{InContext}
-use Rattle.elimination_theory.specs.Side.{turned}
-use Rattle.elimination_theory.specs.declared.side.Side.{Side}
-use Rattle.elimination_theory.specs.declared.side.Side.TheVariants.{Lower, Upper}
-use Rattle.elimination_theory.specs.FieldsPoints.{exact_point, beside_point, ends_of, comparison_points, atom_points, infinity_of}
+use Rattle.logic_meaning.specs.Context.{Fields}
+use Rattle.logic_meaning.specs.Point.{Point, move}
+use Rattle.logic_meaning.specs.Form.{Form, value, coefficient, without, scale}
+use Rattle.logic_meaning.specs.Formula.{Yes, No, One, Not, And, Or, Impl, Repl, Equiv, Ex, All, none, also}
+use Rattle.logic_meaning.specs.Truth.{AllTrue, SomeTrue}
+use Rattle.logic_meaning.specs.Every.{Every, EveryOf}
+use Rattle.logic_meaning.specs.Plain.{IsPlain, ArePlain}
+use Rattle.logic_meaning.specs.Atom.{Compare, Congruent, Relation, Equals, Differs, Below, AtMost, Above, AtLeast, Relates, Says, mirrored}
+use Rattle.formula_laws.specs.TheoryAtoms.{AtomIn}
+use Rattle.logic_meaning.specs.Answer.{Place, Exact, AboveBy, BelowBy, PlusInfinity, MinusInfinity, Periodic}
+use Rattle.logic_meaning.specs.Tree.{Tree, Trees, TrueAt}
+use Rattle.formula_laws.specs.Equivalence.{InContext}
+use Rattle.logic_meaning.specs.Side.{turned}
+use Rattle.logic_meaning.specs.declared.side.Side.{Side}
+use Rattle.logic_meaning.specs.declared.side.Side.TheVariants.{Lower, Upper}
+use Rattle.logic_meaning.specs.FieldsPoints.{exact_point, beside_point, ends_of, comparison_points, atom_points, infinity_of}
 use Rattle.elimination_theory.proofs.FieldsCut.{Before, NotAfter, Cut, Everywhere, From, After, IsProper, Covers, Within, one_within, Seen, seen, same_not_after, before_differs, both_not_after, by_sides, not_after_before, not_after_not_after}
 use Rattle.elimination_theory.proofs.FieldsLine.{over, under, line_positive, line_negative, comparison_still}
 use Rattle.elimination_theory.proofs.LowestTerms.{lowest}
-use Rattle.formula_meaning.specs.Some.{Among}
+use Rattle.logic_meaning.specs.Some.{Among}
 
 -- where the interval of a place begins, at the point
 abbrev pub cut_of : Point ℕ → Place → Cut

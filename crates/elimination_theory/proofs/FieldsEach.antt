@@ -1,15 +1,15 @@
 -- What holds of the infinities and next to each end of an atom holds of each test point of the fields.
 use Rattle.std.proofs.Common.{◌≡◌, ℕ, zero, suc, List, ◌∷◌, flat_map, subst, inl, inr}
 use Rattle.std.proofs.Math.IntN.{ℤ, pos, negsuc}
-use Rattle.formula_meaning.specs.Form.{Form, scale, coefficient, without}
-use Rattle.formula_meaning.specs.Atom.{Atom, Compare, Congruent, Relation, Equals, Differs, Below, AtMost, Above, AtLeast, mirrored, form_of}
-use Rattle.formula_meaning.specs.Answer.{Place, PlusInfinity, MinusInfinity, same_place}
-use Rattle.formula_meaning.specs.Some.{Among}
-use Rattle.formula_meaning.proofs.Listed.{flat_map_among, distinct_among}
-use Rattle.elimination_theory.specs.Side.{turned}
-use Rattle.elimination_theory.specs.declared.side.Side.{Side}
-use Rattle.elimination_theory.specs.declared.side.Side.TheVariants.{Lower, Upper}
-use Rattle.elimination_theory.specs.FieldsPoints.{exact_point, beside_point, ends_of, comparison_points, atom_points, infinity_of, field_points_of}
+use Rattle.logic_meaning.specs.Form.{Form, scale, coefficient, without}
+use Rattle.logic_meaning.specs.Atom.{Atom, Compare, Congruent, Relation, Equals, Differs, Below, AtMost, Above, AtLeast, mirrored, form_of}
+use Rattle.logic_meaning.specs.Answer.{Place, PlusInfinity, MinusInfinity, same_place}
+use Rattle.logic_meaning.specs.Some.{Among}
+use Rattle.formula_laws.proofs.Listed.{flat_map_among, distinct_among}
+use Rattle.logic_meaning.specs.Side.{turned}
+use Rattle.logic_meaning.specs.declared.side.Side.{Side}
+use Rattle.logic_meaning.specs.declared.side.Side.TheVariants.{Lower, Upper}
+use Rattle.logic_meaning.specs.FieldsPoints.{exact_point, beside_point, ends_of, comparison_points, atom_points, infinity_of, field_points_of}
 
 module _ (P : Place → Type 0) where
   -- P holds of the points at e over d

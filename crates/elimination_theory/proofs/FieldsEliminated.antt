@@ -1,24 +1,23 @@
 -- Over the ordered fields one quantifier is eliminated by the disjunction over its test points.
 use Rattle.std.proofs.Common.{ℕ, List, [], ◌∷◌, refl, inl, inr, ⊎_elim, ◌↔◌, nat_eq}
-use Rattle.formula_meaning.specs.Context.{Context, Fields}
-use Rattle.formula_meaning.specs.Point.{Point, move}
-use Rattle.formula_meaning.specs.Truth.{SomeTrue}
-use Rattle.formula_meaning.specs.Every.{EveryOf}
-use Rattle.formula_meaning.specs.Some.{SomeOf}
-use Rattle.formula_meaning.specs.Plain.{IsPlain, ArePlain}
-use Rattle.formula_meaning.specs.Atom.{Says}
-use Rattle.formula_meaning.specs.TheoryAtoms.{AtomIn}
-use Rattle.formula_meaning.specs.Answer.{Place, Holds}
-use Rattle.formula_meaning.specs.Tree.{Tree, TrueAt}
-use Rattle.formula_meaning.specs.Equivalence.{InContext}
-use Rattle.elimination_theory.specs.declared.side.Side.{Side}
-use Rattle.elimination_theory.specs.FieldsPoints.{field_points}
+use Rattle.logic_meaning.specs.Context.{Context, Fields}
+use Rattle.logic_meaning.specs.Point.{Point, move}
+use Rattle.logic_meaning.specs.Truth.{SomeTrue}
+use Rattle.logic_meaning.specs.Every.{EveryOf}
+use Rattle.logic_meaning.specs.Some.{SomeOf, Among}
+use Rattle.logic_meaning.specs.Plain.{IsPlain, ArePlain}
+use Rattle.logic_meaning.specs.Atom.{Says}
+use Rattle.formula_laws.specs.TheoryAtoms.{AtomIn}
+use Rattle.logic_meaning.specs.Answer.{Place, Holds}
+use Rattle.logic_meaning.specs.Tree.{Tree, TrueAt}
+use Rattle.formula_laws.specs.Equivalence.{InContext}
+use Rattle.logic_meaning.specs.declared.side.Side.{Side}
+use Rattle.logic_meaning.specs.FieldsPoints.{field_points}
 use Rattle.elimination_theory.specs.FieldsTrees.{field_substitution}
 use Rattle.elimination_theory.specs.AtPlace.{at_place}
 use Rattle.elimination_theory.specs.Elimination.{trees_at, field_elimination}
 use Rattle.elimination_theory.specs.Decided.{FieldEliminationIsExact}
-use Rattle.formula_meaning.specs.Some.{Among}
-use Rattle.formula_meaning.proofs.Iff.{both_ways}
+use Rattle.formula_laws.proofs.Iff.{both_ways}
 use Rattle.elimination_theory.proofs.FieldsSuffice.{field_points_suffice, field_point_place}
 use Rattle.elimination_theory.proofs.FieldsSubstitute.{substitution_exact}
 use Rattle.elimination_theory.proofs.Simple.{substitution_plain}

@@ -3,12 +3,12 @@ use Rattle.std.proofs.Common.{refl, arith, nat_eq}
 use Rattle.std.proofs.Math.IntN.{pos}
 use Rattle.std.proofs.lemmas.Int.{ints}
 use Rattle.exact_numbers.specs.Divides.{content_of, gcd_of, euclid}
-use Rattle.formula_meaning.specs.Context.{Fields}
-use Rattle.formula_meaning.specs.Point.{move}
-use Rattle.formula_meaning.specs.Form.{value, coefficient, without, scale, combine}
-use Rattle.formula_meaning.specs.Answer.{Exact, MinusInfinity, Holds}
-use Rattle.formula_meaning.specs.Tree.{TrueAt}
-use Rattle.elimination_theory.specs.FieldsPoints.{form_over}
+use Rattle.logic_meaning.specs.Context.{Fields}
+use Rattle.logic_meaning.specs.Point.{move}
+use Rattle.logic_meaning.specs.Form.{value, coefficient, without, scale, combine}
+use Rattle.logic_meaning.specs.Answer.{Exact, MinusInfinity, Holds}
+use Rattle.logic_meaning.specs.Tree.{TrueAt}
+use Rattle.logic_meaning.specs.FieldsPoints.{form_over}
 use Rattle.elimination_theory.specs.FieldsTrees.{field_substitution}
 use Rattle.elimination_theory.specs.AtPlace.{at_place}
 use Rattle.elimination_theory.specs.FieldsExample.{open_interval, named, unit_interval, OpenIntervalPoints, OpenIntervalSubstitutions, EpsilonIsNeeded}

@@ -4,13 +4,13 @@ use Rattle.std.proofs.Math.IntN.{ℤ, pos, negsuc, ◌+ℤ◌, ◌-ℤ◌, ◌*�
 use Rattle.std.specs.Prelude.{◌<ℤ◌}
 use Rattle.std.proofs.lemmas.Int.{ints}
 use Rattle.exact_numbers.proofs.Ring.{zero_mul, mul_sub, mul_comm, mul_assoc, mul_left_comm, neg_mul}
-use Rattle.formula_meaning.specs.Point.{Point, move}
-use Rattle.formula_meaning.specs.Form.{Form, value, coefficient, without, scale}
-use Rattle.formula_meaning.specs.Atom.{Relation, Relates, mirrored}
-use Rattle.formula_meaning.proofs.Values.{value_move, value_split, value_scale}
-use Rattle.formula_meaning.proofs.Iff.{both_ways, turn_round}
-use Rattle.formula_meaning.proofs.Relations.{relates_along, relates_zero_mul, relates_difference, relates_neg}
-use Rattle.elimination_theory.specs.FieldsPoints.{divisor_of, form_over}
+use Rattle.logic_meaning.specs.Point.{Point, move}
+use Rattle.logic_meaning.specs.Form.{Form, value, coefficient, without, scale}
+use Rattle.logic_meaning.specs.Atom.{Relation, Relates, mirrored}
+use Rattle.formula_laws.proofs.Values.{value_move, value_split, value_scale}
+use Rattle.formula_laws.proofs.Iff.{both_ways, turn_round}
+use Rattle.formula_laws.proofs.Relations.{relates_along, relates_zero_mul, relates_difference, relates_neg}
+use Rattle.logic_meaning.specs.FieldsPoints.{divisor_of, form_over}
 use Rattle.elimination_theory.proofs.LowestTerms.{IsLowest, lowest}
 
 no_name_value : (c at t : ℤ) (v : ℤ) → c ≡ pos 0 → v ≡ c *ℤ at +ℤ t → v ≡ t

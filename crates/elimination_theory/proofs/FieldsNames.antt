@@ -4,33 +4,33 @@ use Rattle.std.proofs.Math.IntN.{ℤ, pos, negsuc, ◌+ℤ◌, ◌*ℤ◌, neg_�
 use Rattle.std.proofs.lemmas.Int.{ints}
 use Rattle.exact_numbers.proofs.Ring.{mul_zero}
 use Rattle.exact_numbers.proofs.Order.{by_zero, cancel_positive}
-use Rattle.formula_meaning.specs.Context.{Fields}
-use Rattle.formula_meaning.specs.Form.{Form, coefficient, without, scale}
-use Rattle.formula_meaning.specs.Formula.{Formula, Formulas, Yes, No, One, Not, And, Or, Impl, Repl, Equiv, Ex, All, none, also}
-use Rattle.formula_meaning.specs.Every.{Every, Free, FreeInSome}
-use Rattle.formula_meaning.specs.Replaced.{replaced}
-use Rattle.formula_meaning.specs.Plain.{IsPlain, ArePlain}
-use Rattle.formula_meaning.specs.Atom.{Atom, Compare, Congruent, Relation, Equals, Differs, Below, AtMost, Above, AtLeast, Mentions, mirrored}
-use Rattle.formula_meaning.specs.TheoryAtoms.{AtomIn}
-use Rattle.formula_meaning.specs.Answer.{Place, Exact, AboveBy, BelowBy, PlusInfinity, MinusInfinity, Periodic, PlaceMentions, same_place}
-use Rattle.formula_meaning.specs.Tree.{Tree, IsFree}
-use Rattle.formula_meaning.specs.Equivalence.{InContext}
-use Rattle.formula_meaning.proofs.Coefficients.{coefficient_combine, coefficient_scale, coefficient_without_same, coefficient_without_other}
-use Rattle.formula_meaning.proofs.FreeReplaced.{every_free, free_replaced}
-use Rattle.formula_meaning.proofs.EachAtom.{every_map, every_both}
-use Rattle.elimination_theory.specs.Side.{turned}
-use Rattle.elimination_theory.specs.declared.side.Side.{Side}
-use Rattle.elimination_theory.specs.declared.side.Side.TheVariants.{Lower, Upper}
-use Rattle.formula_meaning.specs.Same.{same_atom}
-use Rattle.elimination_theory.specs.Atoms.{atoms_in, atoms_in_all, atoms_of}
-use Rattle.elimination_theory.specs.FieldsPoints.{beside_point, ends_of, comparison_points, atom_points, infinity_of, field_points, form_over, divisor_of}
-use Rattle.elimination_theory.specs.Substitution.{form_at, below_all, beyond, exactly}
-use Rattle.elimination_theory.specs.FieldsSubstitution.{just_above, just_below, beside, field_atom, IsFieldPlace}
+use Rattle.logic_meaning.specs.Context.{Fields}
+use Rattle.logic_meaning.specs.Form.{Form, coefficient, without, scale}
+use Rattle.logic_meaning.specs.Formula.{Formula, Formulas, Yes, No, One, Not, And, Or, Impl, Repl, Equiv, Ex, All, none, also}
+use Rattle.logic_meaning.specs.Every.{Every, Free, FreeInSome}
+use Rattle.logic_meaning.specs.Replaced.{replaced}
+use Rattle.logic_meaning.specs.Plain.{IsPlain, ArePlain}
+use Rattle.logic_meaning.specs.Atom.{Atom, Compare, Congruent, Relation, Equals, Differs, Below, AtMost, Above, AtLeast, Mentions, mirrored}
+use Rattle.formula_laws.specs.TheoryAtoms.{AtomIn}
+use Rattle.logic_meaning.specs.Answer.{Place, Exact, AboveBy, BelowBy, PlusInfinity, MinusInfinity, Periodic, PlaceMentions, same_place}
+use Rattle.logic_meaning.specs.Tree.{Tree, IsFree}
+use Rattle.formula_laws.specs.Equivalence.{InContext}
+use Rattle.formula_laws.proofs.Coefficients.{coefficient_combine, coefficient_scale, coefficient_without_same, coefficient_without_other}
+use Rattle.formula_laws.proofs.FreeReplaced.{every_free, free_replaced}
+use Rattle.formula_laws.proofs.EachAtom.{every_map, every_both}
+use Rattle.logic_meaning.specs.Side.{turned}
+use Rattle.logic_meaning.specs.declared.side.Side.{Side}
+use Rattle.logic_meaning.specs.declared.side.Side.TheVariants.{Lower, Upper}
+use Rattle.logic_meaning.specs.Same.{same_atom}
+use Rattle.logic_meaning.specs.Atoms.{atoms_in, atoms_in_all, atoms_of}
+use Rattle.logic_meaning.specs.FieldsPoints.{beside_point, ends_of, comparison_points, atom_points, infinity_of, field_points, form_over, divisor_of}
+use Rattle.logic_meaning.specs.Substitution.{form_at, below_all, beyond, exactly}
+use Rattle.logic_meaning.specs.FieldsSubstitution.{just_above, just_below, beside, field_atom, IsFieldPlace}
 use Rattle.elimination_theory.specs.FieldsTrees.{field_substitution}
 use Rattle.elimination_theory.specs.Elimination.{trees_at, field_elimination}
 use Rattle.elimination_theory.specs.NamesTheorems.{IsNameOf}
-use Rattle.formula_meaning.specs.Some.{Among}
-use Rattle.formula_meaning.proofs.Listed.{among_append, flat_map_among, distinct_among}
+use Rattle.logic_meaning.specs.Some.{Among}
+use Rattle.formula_laws.proofs.Listed.{among_append, flat_map_among, distinct_among}
 use Rattle.elimination_theory.proofs.LowestTerms.{lowest}
 use Rattle.elimination_theory.proofs.FieldsSuffice.{field_point_place}
 

@@ -5,15 +5,15 @@ use Rattle.std.specs.Prelude.{◌≤◌, ◌<ℤ◌, ◌≤ℤ◌}
 use Rattle.std.proofs.lemmas.Int.{ints}
 use Rattle.exact_numbers.proofs.Ring.{mul_comm, mul_left_comm, neg_mul, mul_neg}
 use Rattle.exact_numbers.proofs.Order.{mul_positive, mul_not_negative, by_less}
-use Rattle.formula_meaning.specs.Context.{Fields}
-use Rattle.formula_meaning.specs.Point.{Point}
-use Rattle.formula_meaning.specs.Form.{Form, value}
-use Rattle.formula_meaning.specs.Atom.{Relation, Equals, Differs, Below, AtMost, Above, AtLeast, Relates, mirrored}
-use Rattle.formula_meaning.specs.Answer.{Small, Large}
-use Rattle.formula_meaning.specs.Tree.{TrueAt}
-use Rattle.formula_meaning.proofs.Values.{pos_mul}
-use Rattle.elimination_theory.specs.Substitution.{below_all}
-use Rattle.elimination_theory.specs.FieldsSubstitution.{just_above, just_below}
+use Rattle.logic_meaning.specs.Context.{Fields}
+use Rattle.logic_meaning.specs.Point.{Point}
+use Rattle.logic_meaning.specs.Form.{Form, value}
+use Rattle.logic_meaning.specs.Atom.{Relation, Equals, Differs, Below, AtMost, Above, AtLeast, Relates, mirrored}
+use Rattle.logic_meaning.specs.Answer.{Small, Large}
+use Rattle.logic_meaning.specs.Tree.{TrueAt}
+use Rattle.formula_laws.proofs.Values.{pos_mul}
+use Rattle.logic_meaning.specs.Substitution.{below_all}
+use Rattle.logic_meaning.specs.FieldsSubstitution.{just_above, just_below}
 use Rattle.elimination_theory.proofs.Fractions.{less_at_most, at_most_less, less_less}
 use Rattle.elimination_theory.proofs.FieldsMeet.{pos_positive, magnitude}
 

@@ -5,28 +5,28 @@ use Rattle.std.specs.Prelude.{◌<ℤ◌}
 use Rattle.std.proofs.lemmas.Int.{ints}
 use Rattle.exact_numbers.proofs.Ring.{ring, mul_comm, mul_assoc, mul_left_comm, add_mul, sub_mul}
 use Rattle.exact_numbers.proofs.Order.{mul_less, cancel_less, mul_positive}
-use Rattle.formula_meaning.specs.Context.{Fields}
-use Rattle.formula_meaning.specs.Point.{Point, Of, move}
-use Rattle.formula_meaning.specs.Points.{IsSamePoint}
-use Rattle.formula_meaning.specs.Form.{Form, value, coefficient, without, scale}
-use Rattle.formula_meaning.specs.Every.{Every}
-use Rattle.formula_meaning.specs.Plain.{IsPlain}
-use Rattle.formula_meaning.specs.Atom.{Atom, Compare, Congruent, Relation, Equals, Differs, Below, AtMost, Above, AtLeast, Relates, Says, mirrored, form_of}
-use Rattle.formula_meaning.specs.TheoryAtoms.{AtomIn}
-use Rattle.formula_meaning.specs.Answer.{Place, Exact, AboveBy, BelowBy, PlusInfinity, MinusInfinity, Periodic, Holds}
-use Rattle.formula_meaning.specs.Tree.{Tree, TrueAt}
-use Rattle.formula_meaning.specs.Equivalence.{InContext}
-use Rattle.formula_meaning.proofs.Values.{pos_mul}
-use Rattle.formula_meaning.proofs.TreeFiner.{tree_same_point}
-use Rattle.formula_meaning.proofs.EachAtom.{every_both}
-use Rattle.formula_meaning.proofs.PlainTruth.{plain_truth}
-use Rattle.elimination_theory.specs.declared.side.Side.{Side}
-use Rattle.elimination_theory.specs.declared.side.Side.TheVariants.{Lower, Upper}
-use Rattle.elimination_theory.specs.Atoms.{atoms_of}
-use Rattle.elimination_theory.specs.FieldsSubstitution.{IsFieldPlace}
+use Rattle.logic_meaning.specs.Context.{Fields}
+use Rattle.logic_meaning.specs.Point.{Point, Of, move}
+use Rattle.formula_laws.specs.Points.{IsSamePoint}
+use Rattle.logic_meaning.specs.Form.{Form, value, coefficient, without, scale}
+use Rattle.logic_meaning.specs.Every.{Every}
+use Rattle.logic_meaning.specs.Plain.{IsPlain}
+use Rattle.logic_meaning.specs.Atom.{Atom, Compare, Congruent, Relation, Equals, Differs, Below, AtMost, Above, AtLeast, Relates, Says, mirrored, form_of}
+use Rattle.formula_laws.specs.TheoryAtoms.{AtomIn}
+use Rattle.logic_meaning.specs.Answer.{Place, Exact, AboveBy, BelowBy, PlusInfinity, MinusInfinity, Periodic, Holds}
+use Rattle.logic_meaning.specs.Tree.{Tree, TrueAt}
+use Rattle.formula_laws.specs.Equivalence.{InContext}
+use Rattle.formula_laws.proofs.Values.{pos_mul}
+use Rattle.formula_laws.proofs.TreeFiner.{tree_same_point}
+use Rattle.formula_laws.proofs.EachAtom.{every_both}
+use Rattle.formula_laws.proofs.PlainTruth.{plain_truth}
+use Rattle.logic_meaning.specs.declared.side.Side.{Side}
+use Rattle.logic_meaning.specs.declared.side.Side.TheVariants.{Lower, Upper}
+use Rattle.logic_meaning.specs.Atoms.{atoms_of}
+use Rattle.logic_meaning.specs.FieldsSubstitution.{IsFieldPlace}
 use Rattle.elimination_theory.specs.AtPlace.{at_place}
 use Rattle.elimination_theory.specs.FieldsSamples.{NoCritical, IsJustPast, IsJustShort, IsBelowAll, IsAboveAll, IsFieldSample}
-use Rattle.formula_meaning.proofs.Listed.{among_some}
+use Rattle.formula_laws.proofs.Listed.{among_some}
 use Rattle.elimination_theory.proofs.Fractions.{less_at_most, at_most_less}
 use Rattle.elimination_theory.proofs.FieldsCut.{Before, NotAfter, Covers, by_before, not_after_before, before_not_after_before, covers_on}
 use Rattle.elimination_theory.proofs.FieldsLine.{over, under, line_positive, line_negative, comparison_still}
@@ -35,7 +35,7 @@ use Rattle.elimination_theory.proofs.FieldsBegin.{IsOfSide, cut_of, proper}
 use Rattle.elimination_theory.proofs.FieldsMeet.{Near, near_meets, near_some, place_near, field_place, pos_positive, positive_pos}
 use Rattle.elimination_theory.proofs.FieldsNear.{small_both, large_both}
 use Rattle.elimination_theory.proofs.FieldsSuffice.{every_atom}
-use Rattle.formula_meaning.proofs.TreeReplacing.{moved_of}
+use Rattle.formula_laws.proofs.TreeReplacing.{moved_of}
 
 near_both : (s : Place) (T U : ℤ → ℕ → Type 0) (p : Point ℕ) → Near p s T → Near p s U → Near p s (λ k m. T k m × U k m)
 near_both (Exact e d) T U p t u = (t, u)

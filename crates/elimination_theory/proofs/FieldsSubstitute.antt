@@ -3,27 +3,27 @@ use Rattle.std.proofs.Common.{◌≡◌, ℕ, suc, zero, ◌*◌, ◌<◌, ap, �
 use Rattle.std.proofs.Math.IntN.{ℤ, pos, negsuc, ◌+ℤ◌, ◌-ℤ◌, ◌*ℤ◌, neg_ℤ}
 use Rattle.std.proofs.lemmas.Int.{ints}
 use Rattle.exact_numbers.proofs.Ring.{mul_comm, mul_left_comm, mul_add, mul_sub, neg_mul, mul_neg}
-use Rattle.formula_meaning.specs.Context.{Fields}
-use Rattle.formula_meaning.specs.Point.{Point, Of, move}
-use Rattle.formula_meaning.specs.Form.{Form, value, coefficient, without}
-use Rattle.formula_meaning.specs.Formula.{One}
-use Rattle.formula_meaning.specs.Every.{Every}
-use Rattle.formula_meaning.specs.Replaced.{replaced}
-use Rattle.formula_meaning.specs.Plain.{IsPlain}
-use Rattle.formula_meaning.specs.Atom.{Atom, Compare, Congruent, Relation, Relates, Says}
-use Rattle.formula_meaning.specs.TheoryAtoms.{AtomIn}
-use Rattle.formula_meaning.specs.Answer.{Place, Exact, AboveBy, BelowBy, PlusInfinity, MinusInfinity, Periodic, Small, Large, Holds}
-use Rattle.formula_meaning.specs.Tree.{Tree, TrueAt}
-use Rattle.formula_meaning.specs.Equivalence.{InContext}
-use Rattle.formula_meaning.proofs.Values.{value_move, value_combine, pos_mul}
-use Rattle.formula_meaning.proofs.EachAtom.{every_map, every_eventually}
-use Rattle.formula_meaning.proofs.PlainTruth.{plain_replaced}
-use Rattle.elimination_theory.specs.Substitution.{form_at, beyond, exactly}
+use Rattle.logic_meaning.specs.Context.{Fields}
+use Rattle.logic_meaning.specs.Point.{Point, Of, move}
+use Rattle.logic_meaning.specs.Form.{Form, value, coefficient, without}
+use Rattle.logic_meaning.specs.Formula.{One}
+use Rattle.logic_meaning.specs.Every.{Every}
+use Rattle.logic_meaning.specs.Replaced.{replaced}
+use Rattle.logic_meaning.specs.Plain.{IsPlain}
+use Rattle.logic_meaning.specs.Atom.{Atom, Compare, Congruent, Relation, Relates, Says}
+use Rattle.formula_laws.specs.TheoryAtoms.{AtomIn}
+use Rattle.logic_meaning.specs.Answer.{Place, Exact, AboveBy, BelowBy, PlusInfinity, MinusInfinity, Periodic, Small, Large, Holds}
+use Rattle.logic_meaning.specs.Tree.{Tree, TrueAt}
+use Rattle.formula_laws.specs.Equivalence.{InContext}
+use Rattle.formula_laws.proofs.Values.{value_move, value_combine, pos_mul}
+use Rattle.formula_laws.proofs.EachAtom.{every_map, every_eventually}
+use Rattle.formula_laws.proofs.PlainTruth.{plain_replaced}
+use Rattle.logic_meaning.specs.Substitution.{form_at, beyond, exactly}
 use Rattle.elimination_theory.specs.AtPlace.{at_place}
-use Rattle.elimination_theory.specs.FieldsSubstitution.{beside, field_atom, IsFieldPlace}
+use Rattle.logic_meaning.specs.FieldsSubstitution.{beside, field_atom, IsFieldPlace}
 use Rattle.elimination_theory.specs.FieldsTrees.{field_substitution}
-use Rattle.formula_meaning.proofs.Iff.{both_ways}
-use Rattle.formula_meaning.proofs.Relations.{relates_along}
+use Rattle.formula_laws.proofs.Iff.{both_ways}
+use Rattle.formula_laws.proofs.Relations.{relates_along}
 use Rattle.elimination_theory.proofs.FieldsLine.{comparison_still}
 use Rattle.elimination_theory.proofs.FieldsMeet.{pos_positive, small_some, large_some}
 use Rattle.elimination_theory.proofs.FieldsNear.{small_both, large_both, small_all, large_all, small_map, large_map, above_table, below_table, low_table, high_table, near_above, near_below, low_far, high_far}

@@ -1,26 +1,25 @@
 -- Over the ordered fields test points suffice, on both sides.
 use Rattle.std.proofs.Common.{ℕ, suc, ◌∷◌, refl, arith, inl, inr, ◌↔◌, nat_eq, flat_map}
 use Rattle.std.proofs.Math.IntN.{negsuc}
-use Rattle.formula_meaning.specs.Context.{Fields}
-use Rattle.formula_meaning.specs.Point.{Point, Of, move}
-use Rattle.formula_meaning.specs.Form.{Form, without, scale}
-use Rattle.formula_meaning.specs.Formula.{Formula, Formulas, Yes, No, One, Not, And, Or, Impl, Repl, Equiv, Ex, All, none, also}
-use Rattle.formula_meaning.specs.Some.{SomeOf}
-use Rattle.formula_meaning.specs.Every.{Every, EveryOf}
-use Rattle.formula_meaning.specs.Plain.{IsPlain}
-use Rattle.formula_meaning.specs.Atom.{Atom, form_of}
-use Rattle.formula_meaning.specs.Answer.{Place, Holds, same_place}
-use Rattle.formula_meaning.specs.Tree.{Tree, TrueAt}
-use Rattle.formula_meaning.specs.Equivalence.{InContext}
-use Rattle.elimination_theory.specs.declared.side.Side.{Side}
-use Rattle.formula_meaning.specs.Same.{same_atom}
-use Rattle.elimination_theory.specs.Atoms.{atoms_in, atoms_in_all, atoms_of}
-use Rattle.elimination_theory.specs.FieldsPoints.{atom_points, infinity_of, field_points}
-use Rattle.elimination_theory.specs.FieldsSubstitution.{IsFieldPlace}
+use Rattle.logic_meaning.specs.Context.{Fields}
+use Rattle.logic_meaning.specs.Point.{Point, Of, move}
+use Rattle.logic_meaning.specs.Form.{Form, without, scale}
+use Rattle.logic_meaning.specs.Formula.{Formula, Formulas, Yes, No, One, Not, And, Or, Impl, Repl, Equiv, Ex, All, none, also}
+use Rattle.logic_meaning.specs.Some.{SomeOf, Among}
+use Rattle.logic_meaning.specs.Every.{Every, EveryOf}
+use Rattle.logic_meaning.specs.Plain.{IsPlain}
+use Rattle.logic_meaning.specs.Atom.{Atom, form_of}
+use Rattle.logic_meaning.specs.Answer.{Place, Holds, same_place}
+use Rattle.logic_meaning.specs.Tree.{Tree, TrueAt}
+use Rattle.formula_laws.specs.Equivalence.{InContext}
+use Rattle.logic_meaning.specs.declared.side.Side.{Side}
+use Rattle.logic_meaning.specs.Same.{same_atom}
+use Rattle.logic_meaning.specs.Atoms.{atoms_in, atoms_in_all, atoms_of}
+use Rattle.logic_meaning.specs.FieldsPoints.{atom_points, infinity_of, field_points}
+use Rattle.logic_meaning.specs.FieldsSubstitution.{IsFieldPlace}
 use Rattle.elimination_theory.specs.AtPlace.{at_place}
-use Rattle.formula_meaning.specs.Some.{Among}
-use Rattle.formula_meaning.proofs.Listed.{some_among, among_some, among_left, among_right, among_flat_map, among_distinct}
-use Rattle.formula_meaning.proofs.Same.{atom_same, place_same}
+use Rattle.formula_laws.proofs.Listed.{some_among, among_some, among_left, among_right, among_flat_map, among_distinct}
+use Rattle.formula_laws.proofs.Same.{atom_same, place_same}
 use Rattle.elimination_theory.proofs.LowestTerms.{lowest}
 use Rattle.elimination_theory.proofs.FieldsEach.{HoldsAt, at_all, far_out, field_points_have}
 use Rattle.elimination_theory.proofs.FieldsBegin.{Begins, formula_begins}

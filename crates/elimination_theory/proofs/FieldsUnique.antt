@@ -4,11 +4,11 @@ use Rattle.std.proofs.Math.IntN.{ℤ, pos, ◌+ℤ◌, ◌-ℤ◌, ◌*ℤ◌}
 use Rattle.std.specs.Prelude.{◌<ℤ◌}
 use Rattle.exact_numbers.proofs.Ring.{ring, mul_comm, mul_assoc, mul_left_comm, add_mul, sub_mul, zero_mul}
 use Rattle.exact_numbers.proofs.Order.{by_order, cancel_positive, mul_positive}
-use Rattle.formula_meaning.specs.Point.{Point}
-use Rattle.formula_meaning.specs.Form.{value}
-use Rattle.formula_meaning.specs.Answer.{Exact, AboveBy, BelowBy, PlusInfinity, MinusInfinity, Periodic}
-use Rattle.formula_meaning.specs.Tree.{Tree}
-use Rattle.formula_meaning.proofs.Values.{pos_mul}
+use Rattle.logic_meaning.specs.Point.{Point}
+use Rattle.logic_meaning.specs.Form.{value}
+use Rattle.logic_meaning.specs.Answer.{Exact, AboveBy, BelowBy, PlusInfinity, MinusInfinity, Periodic}
+use Rattle.logic_meaning.specs.Tree.{Tree}
+use Rattle.formula_laws.proofs.Values.{pos_mul}
 use Rattle.elimination_theory.specs.FieldsSamples.{IsJustPast, IsJustShort, IsBelowAll, IsAboveAll, FieldSampleIsUnique}
 use Rattle.elimination_theory.proofs.FieldsSample.{twice}
 use Rattle.elimination_theory.proofs.FieldsMeet.{pos_positive}

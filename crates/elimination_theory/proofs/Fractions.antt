@@ -5,7 +5,7 @@ use Rattle.std.specs.Prelude.{◌<ℤ◌, ◌≤ℤ◌}
 use Rattle.std.proofs.lemmas.Int.{ints}
 use Rattle.exact_numbers.proofs.Ring.{mul_left_comm, mul_comm}
 use Rattle.exact_numbers.proofs.Order.{mul_less, mul_at_most, cancel_less, cancel_at_most}
-use Rattle.formula_meaning.proofs.Relations.{weaken}
+use Rattle.formula_laws.proofs.Relations.{weaken}
 
 -- the factor of a product of three that is to be cancelled comes first
 front : (f a d : ℤ) → f *ℤ (a *ℤ d) ≡ d *ℤ (a *ℤ f)

@@ -3,17 +3,17 @@ use Rattle.std.proofs.Common.{◌≡◌, ℕ, suc, zero, ◌*◌, ◌<◌, ℤ, 
 use Rattle.std.proofs.lemmas.Int.{ints}
 use Rattle.exact_numbers.proofs.Ring.{ring, zero_mul, mul_one, mul_left_comm}
 use Rattle.exact_numbers.proofs.Order.{cancel_positive}
-use Rattle.formula_meaning.specs.Context.{Integers}
-use Rattle.formula_meaning.specs.Point.{Point, move}
-use Rattle.formula_meaning.specs.Form.{Form, value, coefficient, without}
-use Rattle.formula_meaning.specs.Atom.{mirrored, Atom, Compare, Congruent, Relation, Equals, Differs, Below, AtMost, Above, AtLeast, Relates, IsMultiple, Says, form_of}
-use Rattle.formula_meaning.specs.Answer.{Exact, Periodic}
-use Rattle.formula_meaning.specs.Tree.{TrueAt}
-use Rattle.formula_meaning.proofs.Relations.{relates_mul, relates_along}
-use Rattle.formula_meaning.proofs.Values.{value_move, value_split, value_plus, value_combine, below_move, pos_mul}
-use Rattle.formula_meaning.proofs.Iff.{both_ways, turn_round, not_iff}
-use Rattle.elimination_theory.specs.Substitution.{form_at, beyond, exactly, below_all, where_zero}
-use Rattle.elimination_theory.specs.IntegersSubstitution.{put_number, along, integer_atom}
+use Rattle.logic_meaning.specs.Context.{Integers}
+use Rattle.logic_meaning.specs.Point.{Point, move}
+use Rattle.logic_meaning.specs.Form.{Form, value, coefficient, without}
+use Rattle.logic_meaning.specs.Atom.{mirrored, Atom, Compare, Congruent, Relation, Equals, Differs, Below, AtMost, Above, AtLeast, Relates, IsMultiple, Says, form_of}
+use Rattle.logic_meaning.specs.Answer.{Exact, Periodic}
+use Rattle.logic_meaning.specs.Tree.{TrueAt}
+use Rattle.formula_laws.proofs.Relations.{relates_mul, relates_along}
+use Rattle.formula_laws.proofs.Values.{value_move, value_split, value_plus, value_combine, below_move, pos_mul}
+use Rattle.formula_laws.proofs.Iff.{both_ways, turn_round, not_iff}
+use Rattle.logic_meaning.specs.Substitution.{form_at, beyond, exactly, below_all, where_zero}
+use Rattle.logic_meaning.specs.IntegersSubstitution.{put_number, along, integer_atom}
 use Rattle.elimination_theory.proofs.IntegerRelation.{IsTrueBelow, relates_move}
 use Rattle.elimination_theory.proofs.IntegerCompare.{Compares, ComparesLow, IsCongruent, without_name}
 

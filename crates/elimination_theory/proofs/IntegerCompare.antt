@@ -3,7 +3,7 @@ use Rattle.std.proofs.Common.{◌≡◌, ℕ, suc, zero, ◌/◌, ◌<◌, ℤ, 
 use Rattle.std.proofs.lemmas.Int.{ints}
 use Rattle.exact_numbers.proofs.Ring.{ring, zero_mul, mul_sub}
 use Rattle.exact_numbers.proofs.Order.{at_most_mul}
-use Rattle.formula_meaning.specs.Atom.{mirrored, Relation, Relates}
+use Rattle.logic_meaning.specs.Atom.{mirrored, Relation, Relates}
 use Rattle.elimination_theory.proofs.MoreArithmetic.{at_least_neg_abs}
 use Rattle.elimination_theory.proofs.IntegerRelation.{IsTrueBelow, Near, relates_move, relates_step, relates_below, line_up, line_down}
 

@@ -1,10 +1,10 @@
 -- How many test points there are over the integers.
 use Rattle.std.proofs.Common.{pos, neg_ℤ, ◌≡◌, ℕ, suc, zero, ◌+◌, ◌*◌, ◌/◌, List, [], ◌∷◌, ◌++◌, length, flat_map, arith, refl, ◌∙◌, length-append}
 use Rattle.std.proofs.lemmas.List.{length-map}
-use Rattle.formula_meaning.specs.Form.{Form, plus}
-use Rattle.formula_meaning.specs.Answer.{Exact, Periodic}
-use Rattle.elimination_theory.specs.declared.side.Side.{Side}
-use Rattle.elimination_theory.specs.IntegersPoints.{signed, counted, class_points, next_points, atom_starts, scale_of, own_span}
+use Rattle.logic_meaning.specs.Form.{Form, plus}
+use Rattle.logic_meaning.specs.Answer.{Exact, Periodic}
+use Rattle.logic_meaning.specs.declared.side.Side.{Side}
+use Rattle.logic_meaning.specs.IntegersPoints.{signed, counted, class_points, next_points, atom_starts, scale_of, own_span}
 use Rattle.elimination_theory.specs.IntegersTheorems.{IntegerPointsAreCounted}
 
 length_counted : (first n : ℕ) → length (counted first n) ≡ n

@@ -3,11 +3,11 @@
 use Rattle.std.proofs.Common.{◌≡◌, ℕ, suc, zero, ◌+◌, ◌*◌, ◌<◌, ℤ, pos, ◌+ℤ◌, ◌-ℤ◌, ◌*ℤ◌, neg_ℤ, ◌<ℤ◌, ◌⊎◌, ◌↔◌, arith, inl, inr, subst, unsigned_abs}
 use Rattle.std.proofs.lemmas.Int.{ints}
 use Rattle.exact_numbers.proofs.Ring.{ring}
-use Rattle.formula_meaning.specs.Formula.{Formula}
-use Rattle.formula_meaning.proofs.EachAtom.{every_map}
-use Rattle.formula_meaning.specs.Some.{SomeOf}
-use Rattle.elimination_theory.specs.Atoms.{atoms_in}
-use Rattle.formula_meaning.specs.Every.{Every}
+use Rattle.logic_meaning.specs.Formula.{Formula}
+use Rattle.formula_laws.proofs.EachAtom.{every_map}
+use Rattle.logic_meaning.specs.Some.{SomeOf}
+use Rattle.logic_meaning.specs.Atoms.{atoms_in}
+use Rattle.logic_meaning.specs.Every.{Every}
 use Rattle.elimination_theory.proofs.MoreArithmetic.{down_suc, below_bound, Residue, residue, steps_far, less_or_at_least}
 use Rattle.elimination_theory.proofs.IntegerEval.{Eval, Downwards, eval_or, eval_map, every_downwards}
 

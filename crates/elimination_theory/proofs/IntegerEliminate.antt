@@ -3,30 +3,29 @@ use Rattle.std.proofs.Common.{◌≡◌, ℕ, ◌/◌, ◌<◌, ℤ, pos, ◌*�
 use Rattle.std.proofs.lemmas.Int.{ints}
 use Rattle.exact_numbers.specs.Divides.{Divides}
 use Rattle.exact_numbers.proofs.Ring.{mul_neg, mul_comm}
-use Rattle.formula_meaning.specs.Some.{EachOf}
-use Rattle.formula_meaning.specs.Context.{Integers}
-use Rattle.formula_meaning.specs.Every.{Every}
-use Rattle.formula_meaning.specs.Plain.{IsPlain}
-use Rattle.formula_meaning.specs.Form.{coefficient, plus}
-use Rattle.formula_meaning.specs.Atom.{Atom, Compare, Congruent}
-use Rattle.formula_meaning.specs.Answer.{Place, Exact, Periodic, Holds, same_place}
-use Rattle.formula_meaning.specs.Tree.{Tree}
-use Rattle.formula_meaning.specs.Equivalence.{InContext}
-use Rattle.formula_meaning.proofs.EachAtom.{every_map, every_all}
+use Rattle.logic_meaning.specs.Some.{EachOf}
+use Rattle.logic_meaning.specs.Context.{Integers}
+use Rattle.logic_meaning.specs.Every.{Every}
+use Rattle.logic_meaning.specs.Plain.{IsPlain}
+use Rattle.logic_meaning.specs.Form.{coefficient, plus}
+use Rattle.logic_meaning.specs.Atom.{Atom, Compare, Congruent}
+use Rattle.logic_meaning.specs.Answer.{Place, Exact, Periodic, Holds, same_place}
+use Rattle.logic_meaning.specs.Tree.{Tree}
+use Rattle.formula_laws.specs.Equivalence.{InContext}
+use Rattle.formula_laws.proofs.EachAtom.{every_map, every_all}
 use Rattle.elimination_theory.proofs.Simple.{substitution_plain}
-use Rattle.formula_meaning.proofs.Iff.{both_ways}
-use Rattle.elimination_theory.specs.declared.side.Side.{Side}
-use Rattle.elimination_theory.specs.declared.side.Side.TheVariants.{Lower, Upper}
-use Rattle.elimination_theory.specs.Atoms.{atoms_of}
+use Rattle.formula_laws.proofs.Iff.{both_ways}
+use Rattle.logic_meaning.specs.declared.side.Side.{Side}
+use Rattle.logic_meaning.specs.declared.side.Side.TheVariants.{Lower, Upper}
+use Rattle.logic_meaning.specs.Atoms.{atoms_of}
 use Rattle.elimination_theory.specs.AtPlace.{at_place}
 use Rattle.elimination_theory.specs.IntegersTrees.{guarded_substitution}
 use Rattle.elimination_theory.specs.Elimination.{integer_elimination}
-use Rattle.elimination_theory.specs.IntegersPoints.{signed, counted, class_points, next_points, points_with}
+use Rattle.logic_meaning.specs.IntegersPoints.{signed, counted, class_points, next_points, points_with}
 use Rattle.elimination_theory.specs.IntegersPointTrees.{integer_scale, integer_span, integer_points}
 use Rattle.elimination_theory.specs.IntegersTheorems.{IsPeriodOf, Suits, IntegerTestPointsSuit, IntegerEliminationIsExact}
-use Rattle.elimination_theory.specs.IntegerPlace.{IsIntegerPlace}
+use Rattle.logic_meaning.specs.IntegerPlace.{IsIntegerPlace}
 use Rattle.elimination_theory.proofs.FieldsEliminated.{some_place, trees_plain}
-use Rattle.elimination_theory.proofs.IntegerAtom.{}
 use Rattle.elimination_theory.proofs.SomeListed.{each_append, each_mapped, each_flat_map, each_distinct, each_among}
 use Rattle.elimination_theory.proofs.IntegerSides.{Fits}
 use Rattle.elimination_theory.proofs.IntegerSuffice.{formula_spanned, formula_fits, integer_points_suffice}

@@ -2,12 +2,12 @@
 use Rattle.std.proofs.Common.{⊎_elim, ℤ, pos, ◌⊎◌, inl, inr, ◌<ℤ◌, ◌≤ℤ◌, arith}
 use Rattle.std.proofs.lemmas.Int.{ints}
 use Rattle.elimination_theory.proofs.MoreArithmetic.{less_or_at_least, le_of_lt}
-use Rattle.formula_meaning.proofs.EachAtom.{every_eventually}
-use Rattle.formula_meaning.specs.Some.{SomeOf}
-use Rattle.elimination_theory.specs.Atoms.{atoms_in, atoms_in_all}
+use Rattle.formula_laws.proofs.EachAtom.{every_eventually}
+use Rattle.logic_meaning.specs.Some.{SomeOf}
+use Rattle.logic_meaning.specs.Atoms.{atoms_in, atoms_in_all}
 use Rattle.elimination_theory.proofs.SomeListed.{some_left, some_right}
-use Rattle.formula_meaning.specs.Every.{Every, EveryOf}
-use Rattle.formula_meaning.specs.Formula.{Formula, Formulas, Yes, No, One, Not, And, Or, Impl, Repl, Equiv, Ex, All, none, also}
+use Rattle.logic_meaning.specs.Every.{Every, EveryOf}
+use Rattle.logic_meaning.specs.Formula.{Formula, Formulas, Yes, No, One, Not, And, Or, Impl, Repl, Equiv, Ex, All, none, also}
 
 module _ {A N : Type 0} (P : A → Type 0) where
   abbrev mutual

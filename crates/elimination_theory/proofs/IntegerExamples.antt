@@ -3,13 +3,13 @@ use Rattle.std.proofs.Common.{◌≡◌, ℕ, suc, ℤ, pos, negsuc, ◌+ℤ◌,
 use Rattle.std.proofs.lemmas.Int.{ints}
 use Rattle.exact_numbers.specs.Divides.{lcm_of, gcd_of, euclid}
 use Rattle.exact_numbers.proofs.Ring.{mul_one}
-use Rattle.formula_meaning.specs.Context.{Integers}
-use Rattle.formula_meaning.specs.Point.{Point, move}
-use Rattle.formula_meaning.specs.Form.{coefficient, without, scale, plus, combine, value}
-use Rattle.formula_meaning.specs.Answer.{Exact, Periodic, Holds}
-use Rattle.formula_meaning.specs.Tree.{TrueAt}
-use Rattle.formula_meaning.specs.Formula.{Ex}
-use Rattle.elimination_theory.specs.declared.side.Side.TheVariants.{Lower}
+use Rattle.logic_meaning.specs.Context.{Integers}
+use Rattle.logic_meaning.specs.Point.{Point, move}
+use Rattle.logic_meaning.specs.Form.{coefficient, without, scale, plus, combine, value}
+use Rattle.logic_meaning.specs.Answer.{Exact, Periodic, Holds}
+use Rattle.logic_meaning.specs.Tree.{TrueAt}
+use Rattle.logic_meaning.specs.Formula.{Ex}
+use Rattle.logic_meaning.specs.declared.side.Side.TheVariants.{Lower}
 use Rattle.elimination_theory.specs.AtPlace.{at_place}
 use Rattle.elimination_theory.specs.IntegersTrees.{integer_substitution}
 use Rattle.elimination_theory.specs.IntegersExamples.{a_plus, two_x_is_a, even_above_a, at_most_a, ClassesAreNeeded, PointsOfTwoXIsA, SubstitutionOfTwoXIsA, PointsOfEvenAboveA, SpanIsNeeded, GuardIsNeeded}

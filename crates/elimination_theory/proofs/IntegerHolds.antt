@@ -4,26 +4,26 @@ use Rattle.std.proofs.lemmas.Int.{ints}
 use Rattle.exact_numbers.specs.Divides.{Divides}
 use Rattle.exact_numbers.proofs.Ring.{mul_one, mul_comm, mul_neg, neg_mul}
 use Rattle.exact_numbers.proofs.Divisibility.{divides_same}
-use Rattle.formula_meaning.specs.Context.{Integers}
-use Rattle.formula_meaning.specs.Point.{Point, move}
-use Rattle.formula_meaning.specs.Formula.{One}
-use Rattle.formula_meaning.specs.Every.{Every}
-use Rattle.formula_meaning.specs.Plain.{IsPlain}
-use Rattle.formula_meaning.specs.Form.{Form, value, coefficient}
-use Rattle.formula_meaning.specs.Atom.{Atom, Compare, Congruent, Says, form_of}
-use Rattle.formula_meaning.specs.Answer.{Exact, AboveBy, BelowBy, PlusInfinity, MinusInfinity, Periodic, Holds}
-use Rattle.formula_meaning.specs.Tree.{Tree, TrueAt}
-use Rattle.formula_meaning.proofs.EachAtom.{every_map, every_all, every_both}
-use Rattle.formula_meaning.proofs.Iff.{both_ways, turn_round}
-use Rattle.elimination_theory.specs.declared.side.Side.{Side}
-use Rattle.elimination_theory.specs.declared.side.Side.TheVariants.{Lower, Upper}
+use Rattle.logic_meaning.specs.Context.{Integers}
+use Rattle.logic_meaning.specs.Point.{Point, move}
+use Rattle.logic_meaning.specs.Formula.{One}
+use Rattle.logic_meaning.specs.Every.{Every}
+use Rattle.logic_meaning.specs.Plain.{IsPlain}
+use Rattle.logic_meaning.specs.Form.{Form, value, coefficient}
+use Rattle.logic_meaning.specs.Atom.{Atom, Compare, Congruent, Says, form_of}
+use Rattle.logic_meaning.specs.Answer.{Exact, AboveBy, BelowBy, PlusInfinity, MinusInfinity, Periodic, Holds}
+use Rattle.logic_meaning.specs.Tree.{Tree, TrueAt}
+use Rattle.formula_laws.proofs.EachAtom.{every_map, every_all, every_both}
+use Rattle.formula_laws.proofs.Iff.{both_ways, turn_round}
+use Rattle.logic_meaning.specs.declared.side.Side.{Side}
+use Rattle.logic_meaning.specs.declared.side.Side.TheVariants.{Lower, Upper}
 use Rattle.elimination_theory.specs.AtPlace.{at_place}
-use Rattle.elimination_theory.specs.IntegersSubstitution.{integer_atom, integer_guard, is_whole}
+use Rattle.logic_meaning.specs.IntegersSubstitution.{integer_atom, integer_guard, is_whole}
 use Rattle.elimination_theory.specs.IntegersTrees.{integer_substitution}
-use Rattle.elimination_theory.specs.IntegersPoints.{signed}
+use Rattle.logic_meaning.specs.IntegersPoints.{signed}
 use Rattle.elimination_theory.specs.IntegersPointTrees.{integer_scale}
 use Rattle.elimination_theory.specs.IntegersTheorems.{IsPeriodOf, IntegerAtomIsExact, IntegerSubstitutionIsExact}
-use Rattle.elimination_theory.specs.Atoms.{atoms_of}
+use Rattle.logic_meaning.specs.Atoms.{atoms_of}
 use Rattle.elimination_theory.proofs.SomeListed.{every_of_atoms}
 use Rattle.elimination_theory.proofs.IntegerEval.{Eval, Downwards, eval_map}
 use Rattle.elimination_theory.proofs.IntegerPlain.{plain_eval, replaced_eval}

@@ -3,13 +3,13 @@ use Rattle.std.proofs.Common.{refl, unsigned_abs, ◌≡◌, ℕ, suc, zero, ◌
 use Rattle.std.proofs.lemmas.Int.{ints}
 use Rattle.exact_numbers.specs.Divides.{Divides}
 use Rattle.exact_numbers.proofs.Divisibility.{divides_same, one_divides, neg_divides}
-use Rattle.formula_meaning.specs.Some.{EachOf}
-use Rattle.formula_meaning.specs.Context.{Integers}
-use Rattle.formula_meaning.specs.Form.{coefficient}
-use Rattle.formula_meaning.specs.Atom.{Atom, Compare, Congruent, form_of}
-use Rattle.formula_meaning.specs.TheoryAtoms.{AtomIn}
-use Rattle.elimination_theory.specs.Atoms.{atoms_of}
-use Rattle.elimination_theory.specs.IntegersPoints.{with_coefficient, scale_of, with_modulus, span_of}
+use Rattle.logic_meaning.specs.Some.{EachOf}
+use Rattle.logic_meaning.specs.Context.{Integers}
+use Rattle.logic_meaning.specs.Form.{coefficient}
+use Rattle.logic_meaning.specs.Atom.{Atom, Compare, Congruent, form_of}
+use Rattle.formula_laws.specs.TheoryAtoms.{AtomIn}
+use Rattle.logic_meaning.specs.Atoms.{atoms_of}
+use Rattle.logic_meaning.specs.IntegersPoints.{with_coefficient, scale_of, with_modulus, span_of}
 use Rattle.elimination_theory.specs.IntegersPointTrees.{integer_scale}
 use Rattle.elimination_theory.specs.IntegersTheorems.{IsMultipleOf, SpansAtom, ScaleIsLeast, SpanIsLeast, IntegerScaleIsLeast, IntegerSpanIsLeast}
 use Rattle.elimination_theory.proofs.SomeListed.{each_map, atoms_of_every, every_of_atoms}

@@ -1,10 +1,10 @@
 -- The truth of a plain formula, and of what replaces it, from what its atoms say.
 use Rattle.std.proofs.Common.{ℕ, ℤ, ◌↔◌, inl, inr, ⊎_elim}
-use Rattle.formula_meaning.specs.Context.{Context}
-use Rattle.formula_meaning.specs.Formula.{Formula, Formulas, Yes, No, One, Not, And, Or, Impl, Repl, Equiv, Ex, All, none, also}
-use Rattle.formula_meaning.specs.Truth.{True, AllTrue, SomeTrue}
-use Rattle.formula_meaning.specs.Plain.{IsPlain, ArePlain}
-use Rattle.formula_meaning.specs.Replaced.{replaced, all_replaced}
+use Rattle.logic_meaning.specs.Context.{Context}
+use Rattle.logic_meaning.specs.Formula.{Formula, Formulas, Yes, No, One, Not, And, Or, Impl, Repl, Equiv, Ex, All, none, also}
+use Rattle.logic_meaning.specs.Truth.{True, AllTrue, SomeTrue}
+use Rattle.logic_meaning.specs.Plain.{IsPlain, ArePlain}
+use Rattle.logic_meaning.specs.Replaced.{replaced, all_replaced}
 use Rattle.elimination_theory.proofs.IntegerEval.{Eval, EvalAll, EvalSome}
 
 module _ {A N P : Type 0} (says : A → P → Type 0) (move : P → N → ℤ → ℕ → P) (c : Context) (p : P) where

@@ -2,25 +2,25 @@
 use Rattle.std.proofs.Common.{◌≡◌, ℕ, suc, zero, ◌+◌, ◌/◌, ◌<◌, ℤ, pos, ◌+ℤ◌, ◌-ℤ◌, ◌*ℤ◌, neg_ℤ, ◌⊎◌, ◌↔◌, arith, refl, inl, inr, ⊎_elim, subst, sym, ap, ◌∙◌, nat_eq, flat_map}
 use Rattle.std.proofs.lemmas.Int.{ints}
 use Rattle.exact_numbers.proofs.Ring.{ring, mul_one, mul_comm}
-use Rattle.formula_meaning.specs.Context.{Integers}
-use Rattle.formula_meaning.specs.Point.{Point, move}
-use Rattle.formula_meaning.specs.Formula.{Ex}
-use Rattle.formula_meaning.specs.Every.{Every}
-use Rattle.formula_meaning.specs.Some.{SomeOf}
-use Rattle.formula_meaning.specs.Plain.{IsPlain}
-use Rattle.formula_meaning.specs.Form.{Form, value, plus}
-use Rattle.formula_meaning.specs.Atom.{Says}
-use Rattle.formula_meaning.specs.Answer.{Exact, Periodic, Holds}
-use Rattle.formula_meaning.specs.Tree.{Tree, TrueAt}
-use Rattle.formula_meaning.proofs.EachAtom.{every_map}
-use Rattle.formula_meaning.proofs.Values.{value_plus}
-use Rattle.elimination_theory.specs.Atoms.{atoms_in, atoms_of}
-use Rattle.elimination_theory.specs.declared.side.Side.{Side}
-use Rattle.elimination_theory.specs.declared.side.Side.TheVariants.{Lower, Upper}
+use Rattle.logic_meaning.specs.Context.{Integers}
+use Rattle.logic_meaning.specs.Point.{Point, move}
+use Rattle.logic_meaning.specs.Formula.{Ex}
+use Rattle.logic_meaning.specs.Every.{Every}
+use Rattle.logic_meaning.specs.Some.{SomeOf}
+use Rattle.logic_meaning.specs.Plain.{IsPlain}
+use Rattle.logic_meaning.specs.Form.{Form, value, plus}
+use Rattle.logic_meaning.specs.Atom.{Says}
+use Rattle.logic_meaning.specs.Answer.{Exact, Periodic, Holds}
+use Rattle.logic_meaning.specs.Tree.{Tree, TrueAt}
+use Rattle.formula_laws.proofs.EachAtom.{every_map}
+use Rattle.formula_laws.proofs.Values.{value_plus}
+use Rattle.logic_meaning.specs.Atoms.{atoms_in, atoms_of}
+use Rattle.logic_meaning.specs.declared.side.Side.{Side}
+use Rattle.logic_meaning.specs.declared.side.Side.TheVariants.{Lower, Upper}
 use Rattle.elimination_theory.specs.AtPlace.{at_place}
-use Rattle.elimination_theory.specs.IntegersPoints.{signed, atom_starts, counted, class_points, next_points, points_with}
-use Rattle.formula_meaning.specs.Same.{same_atom}
-use Rattle.formula_meaning.proofs.Same.{atom_same}
+use Rattle.logic_meaning.specs.IntegersPoints.{signed, atom_starts, counted, class_points, next_points, points_with}
+use Rattle.logic_meaning.specs.Same.{same_atom}
+use Rattle.formula_laws.proofs.Same.{atom_same}
 use Rattle.elimination_theory.proofs.SomeListed.{some_map, some_left, some_right, some_either, some_mapped, some_of_mapped, some_flat_map, some_of_flat_map, some_distinct, some_gives}
 use Rattle.elimination_theory.proofs.IntegerEval.{Eval, Downwards}
 use Rattle.elimination_theory.proofs.IntegerPlain.{plain_eval}

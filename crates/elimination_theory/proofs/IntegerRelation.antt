@@ -3,9 +3,9 @@ use Rattle.std.proofs.Common.{◌≡◌, ℕ, ◌<◌, ℤ, pos, ◌+ℤ◌, ◌
 use Rattle.std.proofs.lemmas.Int.{ints}
 use Rattle.exact_numbers.proofs.Ring.{ring}
 use Rattle.exact_numbers.proofs.Order.{by_order}
-use Rattle.formula_meaning.specs.Atom.{mirrored, Relation, Equals, Differs, Below, AtMost, Above, AtLeast, Relates}
+use Rattle.logic_meaning.specs.Atom.{mirrored, Relation, Equals, Differs, Below, AtMost, Above, AtLeast, Relates}
 use Rattle.elimination_theory.proofs.MoreArithmetic.{less_or_at_least, le_of_lt}
-use Rattle.formula_meaning.proofs.Relations.{relates_mul}
+use Rattle.formula_laws.proofs.Relations.{relates_mul}
 
 pub relates_move : (r : Relation) (a b c d : ℤ) → a -ℤ b ≡ c -ℤ d → Relates r a b → Relates r c d
 relates_move Equals a b c d e h = omega (arith, ints)

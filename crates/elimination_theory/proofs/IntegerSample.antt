@@ -5,26 +5,26 @@ use Rattle.exact_numbers.specs.Divides.{Divides}
 use Rattle.exact_numbers.proofs.Ring.{one_mul, ring, mul_zero, mul_comm, mul_neg, neg_mul}
 use Rattle.exact_numbers.proofs.Order.{cancel_positive, at_most_mul, mul_at_most, by_less, by_zero}
 use Rattle.exact_numbers.proofs.Divisibility.{divides_zero, divides_along}
-use Rattle.formula_meaning.specs.Context.{Integers}
-use Rattle.formula_meaning.specs.Point.{Point, move}
-use Rattle.formula_meaning.specs.Every.{Every}
-use Rattle.formula_meaning.specs.Some.{SomeOf, EachOf}
-use Rattle.formula_meaning.specs.Plain.{IsPlain}
-use Rattle.formula_meaning.specs.Form.{Form, value, coefficient, without}
-use Rattle.formula_meaning.specs.Atom.{Atom, Compare, Congruent, Relation, Relates, mirrored, Says}
-use Rattle.formula_meaning.specs.Answer.{Exact, AboveBy, BelowBy, PlusInfinity, MinusInfinity, Periodic, Holds}
-use Rattle.formula_meaning.specs.Tree.{Tree, TrueAt}
-use Rattle.formula_meaning.proofs.EachAtom.{every_all, every_both}
-use Rattle.formula_meaning.proofs.Relations.{relates_turn, relates_along}
-use Rattle.formula_meaning.proofs.Iff.{both_ways, turn_round, not_iff}
+use Rattle.logic_meaning.specs.Context.{Integers}
+use Rattle.logic_meaning.specs.Point.{Point, move}
+use Rattle.logic_meaning.specs.Every.{Every}
+use Rattle.logic_meaning.specs.Some.{SomeOf, EachOf}
+use Rattle.logic_meaning.specs.Plain.{IsPlain}
+use Rattle.logic_meaning.specs.Form.{Form, value, coefficient, without}
+use Rattle.logic_meaning.specs.Atom.{Atom, Compare, Congruent, Relation, Relates, mirrored, Says}
+use Rattle.logic_meaning.specs.Answer.{Exact, AboveBy, BelowBy, PlusInfinity, MinusInfinity, Periodic, Holds}
+use Rattle.logic_meaning.specs.Tree.{Tree, TrueAt}
+use Rattle.formula_laws.proofs.EachAtom.{every_all, every_both}
+use Rattle.formula_laws.proofs.Relations.{relates_turn, relates_along}
+use Rattle.formula_laws.proofs.Iff.{both_ways, turn_round, not_iff}
 use Rattle.elimination_theory.proofs.FieldsLine.{value_still}
-use Rattle.elimination_theory.specs.Atoms.{atoms_of}
-use Rattle.elimination_theory.specs.declared.side.Side.{Side}
-use Rattle.elimination_theory.specs.declared.side.Side.TheVariants.{Lower, Upper}
-use Rattle.elimination_theory.specs.Substitution.{beyond}
+use Rattle.logic_meaning.specs.Atoms.{atoms_of}
+use Rattle.logic_meaning.specs.declared.side.Side.{Side}
+use Rattle.logic_meaning.specs.declared.side.Side.TheVariants.{Lower, Upper}
+use Rattle.logic_meaning.specs.Substitution.{beyond}
 use Rattle.elimination_theory.specs.AtPlace.{at_place}
-use Rattle.elimination_theory.specs.IntegersSubstitution.{along, integer_atom}
-use Rattle.elimination_theory.specs.IntegersPoints.{signed}
+use Rattle.logic_meaning.specs.IntegersSubstitution.{along, integer_atom}
+use Rattle.logic_meaning.specs.IntegersPoints.{signed}
 use Rattle.elimination_theory.specs.IntegersTheorems.{IsPeriodOf, Suits}
 use Rattle.elimination_theory.specs.IntegersSample.{IsPast, LiesBeyond, HasCriticalValue, ComesFirst, IsFarMember, IsClassSample, IntegerSampleIsTrue, IntegerSampleExists, IntegerSampleIsUnique}
 use Rattle.elimination_theory.proofs.SomeListed.{each_among, every_of_atoms, atoms_of_every}
@@ -34,7 +34,7 @@ use Rattle.elimination_theory.proofs.IntegerPlain.{plain_eval, replaced_eval}
 use Rattle.elimination_theory.proofs.IntegerRelation.{relates_below}
 use Rattle.elimination_theory.proofs.IntegerCompare.{IsCongruent}
 use Rattle.elimination_theory.proofs.IntegerAtom.{says_at, value_at, along_zero, below_all_says, periodic_says}
-use Rattle.formula_meaning.proofs.Listed.{some_among}
+use Rattle.formula_laws.proofs.Listed.{some_among}
 use Rattle.elimination_theory.proofs.IntegerSides.{signed_mul, signed_signed, along_signed}
 use Rattle.elimination_theory.proofs.IntegerHolds.{substitution_holds}
 

@@ -6,14 +6,14 @@ use Rattle.exact_numbers.proofs.Ring.{ring, mul_comm, neg_mul}
 use Rattle.exact_numbers.proofs.Order.{cancel_positive, factor_positive, mul_positive}
 use Rattle.exact_numbers.proofs.Divisibility.{divides_trans, divides_along}
 use Rattle.exact_numbers.proofs.LeastMultiple.{lcm_is, exact_div}
-use Rattle.formula_meaning.specs.Some.{EachOf}
-use Rattle.formula_meaning.specs.Context.{Integers}
-use Rattle.formula_meaning.specs.Form.{coefficient}
-use Rattle.formula_meaning.specs.Atom.{Atom, Compare, Congruent, form_of}
-use Rattle.formula_meaning.specs.TheoryAtoms.{AtomIn}
-use Rattle.formula_meaning.proofs.Values.{pos_mul}
+use Rattle.logic_meaning.specs.Some.{EachOf}
+use Rattle.logic_meaning.specs.Context.{Integers}
+use Rattle.logic_meaning.specs.Form.{coefficient}
+use Rattle.logic_meaning.specs.Atom.{Atom, Compare, Congruent, form_of}
+use Rattle.formula_laws.specs.TheoryAtoms.{AtomIn}
+use Rattle.formula_laws.proofs.Values.{pos_mul}
 use Rattle.elimination_theory.proofs.FieldsMeet.{pos_positive, positive_pos}
-use Rattle.elimination_theory.specs.IntegersPoints.{common_multiple, with_coefficient, scale_of, with_modulus, span_of}
+use Rattle.logic_meaning.specs.IntegersPoints.{common_multiple, with_coefficient, scale_of, with_modulus, span_of}
 use Rattle.elimination_theory.proofs.IntegerCompare.{Factor, Scales}
 use Rattle.elimination_theory.proofs.IntegerSides.{Fits}
 

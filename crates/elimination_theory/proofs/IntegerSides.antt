@@ -2,19 +2,19 @@
 use Rattle.std.proofs.Common.{◌≡◌, ℕ, suc, zero, ◌+◌, ◌/◌, ◌<◌, ℤ, pos, negsuc, ◌+ℤ◌, ◌-ℤ◌, ◌*ℤ◌, neg_ℤ, ◌≤ℤ◌, ◌<ℤ◌, ◌⊎◌, ◌↔◌, arith, refl, inl, inr, subst, sym, ap, ◌∙◌, nat_eq, true, false}
 use Rattle.std.proofs.lemmas.Int.{ints}
 use Rattle.exact_numbers.proofs.Ring.{mul_one, neg_mul, mul_neg}
-use Rattle.formula_meaning.specs.Context.{Integers}
-use Rattle.formula_meaning.specs.Point.{Point, move}
-use Rattle.formula_meaning.specs.Some.{SomeOf}
-use Rattle.formula_meaning.specs.Form.{Form, value, coefficient, without, plus}
-use Rattle.formula_meaning.specs.Atom.{Atom, Compare, Congruent, Relation, Equals, Differs, Below, AtMost, Above, AtLeast, Relates, Says, form_of, mirrored}
-use Rattle.formula_meaning.specs.Answer.{Periodic}
-use Rattle.formula_meaning.specs.Tree.{TrueAt}
-use Rattle.formula_meaning.proofs.Values.{value_plus, value_scale}
-use Rattle.formula_meaning.proofs.Iff.{both_ways, turn_round}
-use Rattle.elimination_theory.specs.declared.side.Side.{Side}
-use Rattle.elimination_theory.specs.declared.side.Side.TheVariants.{Lower, Upper}
-use Rattle.elimination_theory.specs.IntegersSubstitution.{along, integer_atom}
-use Rattle.elimination_theory.specs.IntegersPoints.{signed, starts_of, comparison_starts, atom_starts}
+use Rattle.logic_meaning.specs.Context.{Integers}
+use Rattle.logic_meaning.specs.Point.{Point, move}
+use Rattle.logic_meaning.specs.Some.{SomeOf}
+use Rattle.logic_meaning.specs.Form.{Form, value, coefficient, without, plus}
+use Rattle.logic_meaning.specs.Atom.{Atom, Compare, Congruent, Relation, Equals, Differs, Below, AtMost, Above, AtLeast, Relates, Says, form_of, mirrored}
+use Rattle.logic_meaning.specs.Answer.{Periodic}
+use Rattle.logic_meaning.specs.Tree.{TrueAt}
+use Rattle.formula_laws.proofs.Values.{value_plus, value_scale}
+use Rattle.formula_laws.proofs.Iff.{both_ways, turn_round}
+use Rattle.logic_meaning.specs.declared.side.Side.{Side}
+use Rattle.logic_meaning.specs.declared.side.Side.TheVariants.{Lower, Upper}
+use Rattle.logic_meaning.specs.IntegersSubstitution.{along, integer_atom}
+use Rattle.logic_meaning.specs.IntegersPoints.{signed, starts_of, comparison_starts, atom_starts}
 use Rattle.elimination_theory.proofs.IntegerRelation.{Near, mirrored_mirrored}
 use Rattle.elimination_theory.proofs.IntegerCompare.{ComparesLow, ComparesNear, IsCongruent, Scales, compares_step, compares_low, congruent_stays, congruent_back}
 use Rattle.elimination_theory.proofs.IntegerAtom.{SaysAt, LowAt, says_at, periodic_says}

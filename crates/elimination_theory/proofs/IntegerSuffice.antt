@@ -5,21 +5,21 @@ use Rattle.exact_numbers.specs.Divides.{Divides}
 use Rattle.exact_numbers.proofs.Divisibility.{divides_same}
 use Rattle.exact_numbers.proofs.LeastMultiple.{exact_div}
 use Rattle.exact_numbers.proofs.Order.{factor_positive}
-use Rattle.formula_meaning.specs.Some.{EachOf}
-use Rattle.formula_meaning.specs.Context.{Integers}
-use Rattle.formula_meaning.specs.Every.{Every}
-use Rattle.formula_meaning.specs.Form.{coefficient}
-use Rattle.formula_meaning.specs.Atom.{form_of}
-use Rattle.formula_meaning.specs.TheoryAtoms.{AtomIn}
-use Rattle.formula_meaning.specs.Answer.{Holds, same_place}
-use Rattle.formula_meaning.specs.Tree.{Tree}
-use Rattle.formula_meaning.specs.Equivalence.{InContext}
-use Rattle.elimination_theory.specs.Atoms.{atoms_of}
+use Rattle.logic_meaning.specs.Some.{EachOf}
+use Rattle.logic_meaning.specs.Context.{Integers}
+use Rattle.logic_meaning.specs.Every.{Every}
+use Rattle.logic_meaning.specs.Form.{coefficient}
+use Rattle.logic_meaning.specs.Atom.{form_of}
+use Rattle.formula_laws.specs.TheoryAtoms.{AtomIn}
+use Rattle.logic_meaning.specs.Answer.{Holds, same_place}
+use Rattle.logic_meaning.specs.Tree.{Tree}
+use Rattle.formula_laws.specs.Equivalence.{InContext}
+use Rattle.logic_meaning.specs.Atoms.{atoms_of}
 use Rattle.elimination_theory.specs.AtPlace.{at_place}
-use Rattle.elimination_theory.specs.IntegersPoints.{points_with}
+use Rattle.logic_meaning.specs.IntegersPoints.{points_with}
 use Rattle.elimination_theory.specs.IntegersPointTrees.{integer_scale, integer_span}
 use Rattle.elimination_theory.specs.IntegersTheorems.{IntegerTestPointsSuffice}
-use Rattle.formula_meaning.proofs.Same.{place_same}
+use Rattle.formula_laws.proofs.Same.{place_same}
 use Rattle.elimination_theory.proofs.SomeListed.{some_distinct, some_of_distinct, atoms_of_every, every_of_atoms}
 use Rattle.elimination_theory.proofs.IntegerSides.{Fits}
 use Rattle.elimination_theory.proofs.IntegerScale.{Reaches, scale_positive, scale_reaches, span_positive, span_scale, fits_each}

@@ -1,29 +1,29 @@
 -- The names that stand in a formula after a substitution over the integers, and in the test points.
 use Rattle.std.proofs.Common.{◌≡◌, ℕ, suc, zero, ◌/◌, List, [], ◌∷◌, map, flat_map, sym, ◌∙◌, subst, refl, ◌⊎◌, inl, inr, ⊎_elim}
 use Rattle.std.proofs.Math.IntN.{ℤ, pos, negsuc, ◌*ℤ◌, neg_ℤ}
-use Rattle.formula_meaning.specs.Context.{Integers}
-use Rattle.formula_meaning.specs.Form.{Form, coefficient, without, scale, plus}
-use Rattle.formula_meaning.specs.Formula.{Ex}
-use Rattle.formula_meaning.specs.Plain.{IsPlain}
-use Rattle.formula_meaning.specs.Atom.{Atom, Compare, Congruent, Relation, Equals, Differs, Below, AtMost, Above, AtLeast, Mentions, mirrored}
-use Rattle.formula_meaning.specs.Answer.{Place, Exact, AboveBy, BelowBy, PlusInfinity, MinusInfinity, Periodic, PlaceMentions, same_place}
-use Rattle.formula_meaning.specs.Tree.{Tree, IsFree}
-use Rattle.formula_meaning.specs.Equivalence.{InContext}
-use Rattle.formula_meaning.proofs.Coefficients.{coefficient_plus}
-use Rattle.elimination_theory.specs.Side.{turned}
-use Rattle.elimination_theory.specs.declared.side.Side.{Side}
-use Rattle.elimination_theory.specs.Atoms.{atoms_of}
-use Rattle.elimination_theory.specs.Substitution.{form_at, where_zero}
+use Rattle.logic_meaning.specs.Context.{Integers}
+use Rattle.logic_meaning.specs.Form.{Form, coefficient, without, scale, plus}
+use Rattle.logic_meaning.specs.Formula.{Ex}
+use Rattle.logic_meaning.specs.Plain.{IsPlain}
+use Rattle.logic_meaning.specs.Atom.{Atom, Compare, Congruent, Relation, Equals, Differs, Below, AtMost, Above, AtLeast, Mentions, mirrored}
+use Rattle.logic_meaning.specs.Answer.{Place, Exact, AboveBy, BelowBy, PlusInfinity, MinusInfinity, Periodic, PlaceMentions, same_place}
+use Rattle.logic_meaning.specs.Tree.{Tree, IsFree}
+use Rattle.formula_laws.specs.Equivalence.{InContext}
+use Rattle.formula_laws.proofs.Coefficients.{coefficient_plus}
+use Rattle.logic_meaning.specs.Side.{turned}
+use Rattle.logic_meaning.specs.declared.side.Side.{Side}
+use Rattle.logic_meaning.specs.Atoms.{atoms_of}
+use Rattle.logic_meaning.specs.Substitution.{form_at, where_zero}
 use Rattle.elimination_theory.specs.Elimination.{integer_elimination}
-use Rattle.elimination_theory.specs.IntegersPoints.{counted, signed, starts_of, comparison_starts, atom_starts, class_points, next_points, points_with}
+use Rattle.logic_meaning.specs.IntegersPoints.{counted, signed, starts_of, comparison_starts, atom_starts, class_points, next_points, points_with}
 use Rattle.elimination_theory.specs.IntegersPointTrees.{integer_scale, integer_span, integer_points}
-use Rattle.elimination_theory.specs.IntegersSubstitution.{put_number, along, integer_atom, is_whole, integer_guard}
+use Rattle.logic_meaning.specs.IntegersSubstitution.{put_number, along, integer_atom, is_whole, integer_guard}
 use Rattle.elimination_theory.specs.IntegersTrees.{guarded_substitution}
-use Rattle.elimination_theory.specs.IntegerPlace.{IsIntegerPlace}
+use Rattle.logic_meaning.specs.IntegerPlace.{IsIntegerPlace}
 use Rattle.elimination_theory.specs.NamesTheorems.{IsNameOf, SubstitutionKeepsNames, PointsHaveNamesOfFormula, EliminationKeepsNames}
-use Rattle.formula_meaning.specs.Some.{Among}
-use Rattle.formula_meaning.proofs.Listed.{among_append, flat_map_among, distinct_among}
-use Rattle.formula_meaning.proofs.EachAtom.{every_all}
+use Rattle.logic_meaning.specs.Some.{Among}
+use Rattle.formula_laws.proofs.Listed.{among_append, flat_map_among, distinct_among}
+use Rattle.formula_laws.proofs.EachAtom.{every_all}
 use Rattle.elimination_theory.proofs.IntegerEliminate.{points_suit}
 use Rattle.elimination_theory.proofs.FieldsNames.{Has, HasOther, without_has, still_has, scale_has, put_or_still, exactly_has, beyond_has, neg_zero, AtomNames, names_of_replaced, atom_free, trees_free, field_substitution_names, field_point_names, field_elimination_names}
 

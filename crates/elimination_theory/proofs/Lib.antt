@@ -52,3 +52,21 @@ pub mod Overflow
 pub mod AnswersExample
 pub mod Becoming
 pub mod WithinTests
+mod EliminationReferenceExamples
+pub mod Tidy
+pub mod Always
+pub mod Turning
+pub mod Branches
+pub mod Sound
+pub mod CasesExact
+pub mod Through
+pub mod Bounded
+pub mod PutIn
+pub mod Periods
+pub mod Sample
+pub mod PutMatrix
+pub mod Limits
+pub mod Turned
+pub mod Over
+pub mod FromLinearForms
+pub mod FromNormalAtoms

@@ -9,11 +9,11 @@ use Rattle.exact_numbers.proofs.Ring.{mul_zero, zero_mul, mul_add, mul_assoc}
 use Rattle.exact_numbers.proofs.Order.{cancel, factor_positive}
 use Rattle.exact_numbers.proofs.LeastMultiple.{exact_div}
 use Rattle.exact_numbers.proofs.Contents.{content_is}
-use Rattle.formula_meaning.specs.Point.{Point}
-use Rattle.formula_meaning.specs.Form.{Form, Term, total, value, multiple, coefficient, coefficients}
-use Rattle.formula_meaning.specs.Sorted.{IsSorted, gathered}
-use Rattle.formula_meaning.proofs.Gathered.{gathered_is}
-use Rattle.elimination_theory.specs.FieldsPoints.{numbers_of, divisor_of, terms_over, form_over}
+use Rattle.logic_meaning.specs.Point.{Point}
+use Rattle.logic_meaning.specs.Form.{Form, Term, total, value, multiple, coefficient, coefficients}
+use Rattle.logic_meaning.specs.Sorted.{IsSorted, gathered}
+use Rattle.formula_laws.proofs.Gathered.{gathered_is}
+use Rattle.logic_meaning.specs.FieldsPoints.{numbers_of, divisor_of, terms_over, form_over}
 
 -- what the divisor and the quotients have to do with the fraction
 pub record IsLowest (e : Form) (d : ℕ) : Type 0 where

@@ -1,10 +1,10 @@
 -- What holds at a place grows with what is to hold there.
 use Rattle.std.proofs.Common.{ℕ, ◌*◌, refl, mul-pos, nat_eq}
 use Rattle.std.proofs.Math.IntN.{ℤ}
-use Rattle.formula_meaning.specs.Context.{Context, Fields, Integers, Allowed}
-use Rattle.formula_meaning.specs.Point.{Point, move}
-use Rattle.formula_meaning.specs.Answer.{Place, Exact, AboveBy, BelowBy, PlusInfinity, MinusInfinity, Periodic, Meets}
-use Rattle.elimination_theory.specs.BothTheories.{IsPlaceIn}
+use Rattle.logic_meaning.specs.Context.{Context, Fields, Integers, Allowed}
+use Rattle.logic_meaning.specs.Point.{Point, move}
+use Rattle.logic_meaning.specs.Answer.{Place, Exact, AboveBy, BelowBy, PlusInfinity, MinusInfinity, Periodic, Meets}
+use Rattle.logic_meaning.specs.BothTheories.{IsPlaceIn}
 use Rattle.elimination_theory.proofs.FieldsNear.{small_map, large_map}
 
 pub meets_map : (c : Context) (s : Place) (x : ℕ) (R S : Point ℕ → Type 0) (p : Point ℕ) → ((k : ℤ) (m : ℕ) → Allowed c m → R (move nat_eq p x k m) → S (move nat_eq p x k m)) →

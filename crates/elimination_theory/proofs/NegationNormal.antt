@@ -1,18 +1,18 @@
 -- Negation normal form keeps truth, since truth is decided.
 use Rattle.std.proofs.Common.{ℕ, inl, inr, ⊎_elim, ◌↔◌, nat_eq}
-use Rattle.formula_meaning.specs.Context.{Context}
-use Rattle.formula_meaning.specs.Point.{Point, Of, move}
-use Rattle.formula_meaning.specs.Formula.{Yes, No, One, Not, And, Or, Impl, Repl, Equiv, Ex, All, none, also}
-use Rattle.formula_meaning.specs.Truth.{AllTrue, SomeTrue}
-use Rattle.formula_meaning.specs.Every.{Every, EveryOf}
-use Rattle.formula_meaning.specs.NegationNormal.{normal_form, normal_form_of_not, normal_forms, normal_forms_of_not}
-use Rattle.formula_meaning.specs.Atom.{Atom, Says}
-use Rattle.formula_meaning.specs.TheoryAtoms.{AtomIn}
-use Rattle.formula_meaning.specs.Tree.{Tree, Trees, TrueAt}
-use Rattle.formula_meaning.specs.Equivalence.{InContext, IsNegation}
+use Rattle.logic_meaning.specs.Context.{Context}
+use Rattle.logic_meaning.specs.Point.{Point, Of, move}
+use Rattle.logic_meaning.specs.Formula.{Yes, No, One, Not, And, Or, Impl, Repl, Equiv, Ex, All, none, also}
+use Rattle.logic_meaning.specs.Truth.{AllTrue, SomeTrue}
+use Rattle.logic_meaning.specs.Every.{Every, EveryOf}
+use Rattle.logic_meaning.specs.NegationNormal.{normal_form, normal_form_of_not, normal_forms, normal_forms_of_not}
+use Rattle.logic_meaning.specs.Atom.{Atom, Says}
+use Rattle.formula_laws.specs.TheoryAtoms.{AtomIn}
+use Rattle.logic_meaning.specs.Tree.{Tree, Trees, TrueAt}
+use Rattle.formula_laws.specs.Equivalence.{InContext, IsNegation}
 use Rattle.elimination_theory.specs.Decided.{TruthIsDecided, NegationNormalFormKeepsTruth, AllIsNotExNot}
-use Rattle.formula_meaning.proofs.EachAtom.{every_map, every_both}
-use Rattle.formula_meaning.proofs.TreeReplacing.{moved_of}
+use Rattle.formula_laws.proofs.EachAtom.{every_map, every_both}
+use Rattle.formula_laws.proofs.TreeReplacing.{moved_of}
 use Rattle.elimination_theory.proofs.AtomsDecided.{IsDecided}
 
 module _ (c : Context) (truth : TruthIsDecided c) where

@@ -1,36 +1,36 @@
 -- One step of elimination, with atoms in normal form and the formula folded.
 use Rattle.std.proofs.Common.{◌≡◌, ℕ, suc, zero, ◌+◌, ◌*◌, ◌≤◌, length, List, [], ◌∷◌, sym, subst, refl, arith, inl, inr, ⊎_elim, ◌⊎◌, ◌↔◌, nat_eq}
 use Rattle.std.proofs.Math.IntN.{ℤ, pos, negsuc}
-use Rattle.formula_meaning.specs.Context.{Context, Fields, Integers}
-use Rattle.formula_meaning.specs.Point.{Point, move}
-use Rattle.formula_meaning.specs.Formula.{No, One, And}
-use Rattle.formula_meaning.specs.Truth.{SomeTrue}
-use Rattle.formula_meaning.specs.Form.{coefficient}
-use Rattle.formula_meaning.specs.Some.{Among}
-use Rattle.formula_meaning.specs.Plain.{IsPlain}
-use Rattle.formula_meaning.specs.Sizes.{nodes, all_nodes}
-use Rattle.formula_meaning.specs.NegationNormal.{both}
-use Rattle.formula_meaning.specs.Replaced.{replaced}
-use Rattle.formula_meaning.specs.Fold.{folded}
-use Rattle.formula_meaning.specs.Atom.{Atom, Says, Mentions, form_of}
-use Rattle.formula_meaning.specs.TheoryAtoms.{AtomIn}
-use Rattle.formula_meaning.specs.Answer.{Place}
-use Rattle.formula_meaning.specs.Tree.{Tree, TrueAt, IsFree}
-use Rattle.formula_meaning.specs.Equivalence.{InContext, Equivalent}
-use Rattle.formula_meaning.proofs.Iff.{either_iff, both_ways}
-use Rattle.formula_meaning.proofs.EachAtom.{every_map, every_both}
-use Rattle.formula_meaning.proofs.ReplacedShape.{nodes_replaced}
-use Rattle.formula_meaning.proofs.FreeReplaced.{every_free, free_replaced, fewer_replaced}
-use Rattle.formula_meaning.proofs.TreeReplacing.{tree_replacing}
-use Rattle.formula_meaning.proofs.Equivalence.{equivalent_self, equivalent_then, all_equivalent, replaced_equivalent}
-use Rattle.formula_meaning.proofs.Fold.{folded_true, folded_plain, folded_every, folded_free, folded_nodes}
-use Rattle.elimination_theory.specs.Atoms.{atoms_of}
+use Rattle.logic_meaning.specs.Context.{Context, Fields, Integers}
+use Rattle.logic_meaning.specs.Point.{Point, move}
+use Rattle.logic_meaning.specs.Formula.{No, One, And}
+use Rattle.logic_meaning.specs.Truth.{SomeTrue}
+use Rattle.logic_meaning.specs.Form.{coefficient}
+use Rattle.logic_meaning.specs.Some.{Among}
+use Rattle.logic_meaning.specs.Plain.{IsPlain}
+use Rattle.logic_meaning.specs.Sizes.{nodes, all_nodes}
+use Rattle.logic_meaning.specs.NegationNormal.{both}
+use Rattle.logic_meaning.specs.Replaced.{replaced}
+use Rattle.logic_meaning.specs.Fold.{folded}
+use Rattle.logic_meaning.specs.Atom.{Atom, Says, Mentions, form_of}
+use Rattle.formula_laws.specs.TheoryAtoms.{AtomIn}
+use Rattle.logic_meaning.specs.Answer.{Place}
+use Rattle.logic_meaning.specs.Tree.{Tree, TrueAt, IsFree}
+use Rattle.formula_laws.specs.Equivalence.{InContext, Equivalent}
+use Rattle.formula_laws.proofs.Iff.{either_iff, both_ways}
+use Rattle.formula_laws.proofs.EachAtom.{every_map, every_both}
+use Rattle.formula_laws.proofs.ReplacedShape.{nodes_replaced}
+use Rattle.formula_laws.proofs.FreeReplaced.{every_free, free_replaced, fewer_replaced}
+use Rattle.formula_laws.proofs.TreeReplacing.{tree_replacing}
+use Rattle.formula_laws.proofs.Equivalence.{equivalent_self, equivalent_then, all_equivalent, replaced_equivalent}
+use Rattle.formula_laws.proofs.Fold.{folded_true, folded_plain, folded_every, folded_free, folded_nodes}
+use Rattle.logic_meaning.specs.Atoms.{atoms_of}
 use Rattle.elimination_theory.specs.Elimination.{trees_at}
-use Rattle.elimination_theory.specs.Substitution.{where_zero}
-use Rattle.elimination_theory.specs.IntegersSubstitution.{integer_guard}
-use Rattle.elimination_theory.specs.BothTheories.{IsPlaceIn, raw_atom, test_points}
+use Rattle.logic_meaning.specs.Substitution.{where_zero}
+use Rattle.logic_meaning.specs.IntegersSubstitution.{integer_guard}
+use Rattle.logic_meaning.specs.BothTheories.{IsPlaceIn, raw_atom, test_points}
 use Rattle.elimination_theory.specs.Places.{substitution}
-use Rattle.elimination_theory.specs.Steps.{normalised, atom_at, result_at, Result, kept, results}
+use Rattle.logic_meaning.specs.Steps.{normalised, atom_at, result_at, Result, kept, results}
 use Rattle.elimination_theory.specs.StepTheorems.{IsNormaliser, trees_left, StepsAreExact}
 use Rattle.elimination_theory.proofs.Simple.{IsSimple, simple_plain, simple_in, simple_nodes, simple_normalised, where_zero_has, raw_simple, raw_still, guard_simple, replaced_plain}
 use Rattle.elimination_theory.proofs.BothSubstitutions.{place_in, point_suits, eliminated, substituted_names}

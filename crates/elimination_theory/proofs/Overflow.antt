@@ -4,9 +4,9 @@ use Rattle.std.proofs.lemmas.Int.{ints}
 use Rattle.exact_numbers.specs.Divides.{Divides}
 use Rattle.exact_numbers.specs.Limit.{InLimit}
 use Rattle.exact_numbers.proofs.Divisibility.{divides_same, divisor_at_most}
-use Rattle.formula_meaning.specs.Form.{coefficient}
-use Rattle.formula_meaning.specs.Atom.{Atom, Compare, Congruent}
-use Rattle.elimination_theory.specs.IntegersPoints.{scale_of, own_span}
+use Rattle.logic_meaning.specs.Form.{coefficient}
+use Rattle.logic_meaning.specs.Atom.{Atom, Compare, Congruent}
+use Rattle.logic_meaning.specs.IntegersPoints.{scale_of, own_span}
 use Rattle.elimination_theory.specs.IntegersTheorems.{SpansAtom}
 use Rattle.elimination_theory.specs.SpanLimits.{MultipliedWithin, SpanLimits}
 use Rattle.elimination_theory.proofs.SomeListed.{each_map}

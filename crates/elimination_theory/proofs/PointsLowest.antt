@@ -10,10 +10,10 @@ use Rattle.exact_numbers.proofs.Order.{cancel_at_most, by_order}
 use Rattle.exact_numbers.proofs.Divisibility.{mul_divides_mul, divides_along, divisor_at_most, zero_divides}
 use Rattle.exact_numbers.proofs.LeastMultiple.{exact_div}
 use Rattle.exact_numbers.proofs.Contents.{content_is}
-use Rattle.formula_meaning.specs.Form.{Form, Term, scale, without, coefficients}
-use Rattle.formula_meaning.specs.Atom.{form_of}
-use Rattle.elimination_theory.specs.Atoms.{atoms_of}
-use Rattle.elimination_theory.specs.FieldsPoints.{numbers_of, divisor_of, terms_over, form_over}
+use Rattle.logic_meaning.specs.Form.{Form, Term, scale, without, coefficients}
+use Rattle.logic_meaning.specs.Atom.{form_of}
+use Rattle.logic_meaning.specs.Atoms.{atoms_of}
+use Rattle.logic_meaning.specs.FieldsPoints.{numbers_of, divisor_of, terms_over, form_over}
 use Rattle.elimination_theory.specs.LowestPoints.{IsInLowestTerms, FieldPointsAreInLowestTerms}
 use Rattle.elimination_theory.proofs.LowestTerms.{lowest, natural, all_divided}
 use Rattle.elimination_theory.proofs.FieldsEach.{HoldsAt, at_all, far_out, field_points_have}

@@ -7,18 +7,18 @@ use Rattle.exact_numbers.specs.Division.{DividesAll}
 use Rattle.exact_numbers.proofs.Ring.{mul_zero}
 use Rattle.exact_numbers.proofs.Divisibility.{divides_same}
 use Rattle.exact_numbers.proofs.LeastMultiple.{exact_div}
-use Rattle.formula_meaning.specs.Context.{Context, Fields, Integers}
-use Rattle.formula_meaning.specs.Form.{Form, Term, coefficient, without, scale, plus, coefficients}
-use Rattle.formula_meaning.specs.Sorted.{IsSorted, AllAbove, IsRising, AllNonzero}
-use Rattle.formula_meaning.specs.Atom.{Atom, Compare, Congruent, Relation, Equals, Differs, Below, AtMost, Above, AtLeast, mirrored, form_of}
-use Rattle.formula_meaning.specs.Answer.{Place, Exact, Periodic, IsSortedPlace, same_place}
-use Rattle.formula_meaning.specs.Some.{Among}
-use Rattle.formula_meaning.proofs.Listed.{among_append, flat_map_among, distinct_among}
-use Rattle.formula_meaning.proofs.Sorted.{without_sorted, scale_sorted}
-use Rattle.elimination_theory.specs.Side.{turned}
-use Rattle.elimination_theory.specs.declared.side.Side.{Side}
-use Rattle.elimination_theory.specs.FieldsPoints.{divisor_of, terms_over, form_over}
-use Rattle.elimination_theory.specs.IntegersPoints.{scale_of, own_span, counted, signed, starts_of, comparison_starts, atom_starts, class_points, next_points, points_with}
+use Rattle.logic_meaning.specs.Context.{Context, Fields, Integers}
+use Rattle.logic_meaning.specs.Form.{Form, Term, coefficient, without, scale, plus, coefficients}
+use Rattle.logic_meaning.specs.Sorted.{IsSorted, AllAbove, IsRising, AllNonzero}
+use Rattle.logic_meaning.specs.Atom.{Atom, Compare, Congruent, Relation, Equals, Differs, Below, AtMost, Above, AtLeast, mirrored, form_of}
+use Rattle.logic_meaning.specs.Answer.{Place, Exact, Periodic, IsSortedPlace, same_place}
+use Rattle.logic_meaning.specs.Some.{Among}
+use Rattle.formula_laws.proofs.Listed.{among_append, flat_map_among, distinct_among}
+use Rattle.formula_laws.proofs.Sorted.{without_sorted, scale_sorted}
+use Rattle.logic_meaning.specs.Side.{turned}
+use Rattle.logic_meaning.specs.declared.side.Side.{Side}
+use Rattle.logic_meaning.specs.FieldsPoints.{divisor_of, terms_over, form_over}
+use Rattle.logic_meaning.specs.IntegersPoints.{scale_of, own_span, counted, signed, starts_of, comparison_starts, atom_starts, class_points, next_points, points_with}
 use Rattle.elimination_theory.specs.PointsTheorems.{PointsAreSorted}
 use Rattle.elimination_theory.proofs.SomeListed.{each_among}
 use Rattle.elimination_theory.proofs.LowestTerms.{all_divided, divisor_not_zero}

@@ -6,31 +6,31 @@ use Rattle.std.proofs.lemmas.Int.{ints}
 use Rattle.std.proofs.lemmas.Bool.{eq-eqb}
 use Rattle.exact_numbers.specs.Divides.{Divides}
 use Rattle.exact_numbers.proofs.Ring.{ring, mul_one, mul_comm}
-use Rattle.formula_meaning.specs.Context.{Context, Fields, Integers, Allowed}
-use Rattle.formula_meaning.specs.Point.{Point, Of, move}
-use Rattle.formula_meaning.specs.Form.{Form, value, coefficient, without}
-use Rattle.formula_meaning.specs.Plain.{IsPlain}
-use Rattle.formula_meaning.specs.Every.{Every}
-use Rattle.formula_meaning.specs.Atom.{Atom, Compare, Congruent, Says, Relates, IsMultiple}
-use Rattle.formula_meaning.specs.TheoryAtoms.{AtomIn}
-use Rattle.formula_meaning.specs.Answer.{Place, Exact, AboveBy, BelowBy, PlusInfinity, MinusInfinity, Periodic, Holds}
-use Rattle.formula_meaning.specs.Tree.{Tree, TrueAt}
-use Rattle.formula_meaning.specs.Equivalence.{InContext}
-use Rattle.formula_meaning.proofs.Values.{value_move, pos_mul}
-use Rattle.formula_meaning.proofs.Relations.{relates_zero_mul}
-use Rattle.formula_meaning.proofs.EachAtom.{every_map, every_both, every_all}
-use Rattle.formula_meaning.proofs.PlainTruth.{plain_replaced}
-use Rattle.formula_meaning.proofs.ReplacedShape.{every_replaced}
-use Rattle.formula_meaning.proofs.TreeReplacing.{moved_of}
+use Rattle.logic_meaning.specs.Context.{Context, Fields, Integers, Allowed}
+use Rattle.logic_meaning.specs.Point.{Point, Of, move}
+use Rattle.logic_meaning.specs.Form.{Form, value, coefficient, without}
+use Rattle.logic_meaning.specs.Plain.{IsPlain}
+use Rattle.logic_meaning.specs.Every.{Every}
+use Rattle.logic_meaning.specs.Atom.{Atom, Compare, Congruent, Says, Relates, IsMultiple}
+use Rattle.formula_laws.specs.TheoryAtoms.{AtomIn}
+use Rattle.logic_meaning.specs.Answer.{Place, Exact, AboveBy, BelowBy, PlusInfinity, MinusInfinity, Periodic, Holds}
+use Rattle.logic_meaning.specs.Tree.{Tree, TrueAt}
+use Rattle.formula_laws.specs.Equivalence.{InContext}
+use Rattle.formula_laws.proofs.Values.{value_move, pos_mul}
+use Rattle.formula_laws.proofs.Relations.{relates_zero_mul}
+use Rattle.formula_laws.proofs.EachAtom.{every_map, every_both, every_all}
+use Rattle.formula_laws.proofs.PlainTruth.{plain_replaced}
+use Rattle.formula_laws.proofs.ReplacedShape.{every_replaced}
+use Rattle.formula_laws.proofs.TreeReplacing.{moved_of}
 use Rattle.elimination_theory.specs.AtPlace.{at_place}
 use Rattle.elimination_theory.specs.IntegersTheorems.{IsPeriodOf, Suits}
-use Rattle.elimination_theory.specs.IntegerPlace.{IsIntegerPlace}
+use Rattle.logic_meaning.specs.IntegerPlace.{IsIntegerPlace}
 use Rattle.elimination_theory.specs.Places.{IsPlaceFor}
 use Rattle.elimination_theory.specs.StepTheorems.{IsNormaliser}
-use Rattle.elimination_theory.specs.Answers.{Step}
+use Rattle.logic_meaning.specs.Answers.{Step}
 use Rattle.elimination_theory.specs.AnswersTheorems.{Makes}
 use Rattle.elimination_theory.specs.Samples.{form_with, atom_with, tree_with, IsSample, KeepsPeriods, SamplesAreTrue, SamplesExist}
-use Rattle.formula_meaning.proofs.Iff.{both_ways}
+use Rattle.formula_laws.proofs.Iff.{both_ways}
 use Rattle.elimination_theory.proofs.Meets.{meets_map}
 use Rattle.elimination_theory.proofs.Simple.{simple_from, replaced_plain}
 use Rattle.elimination_theory.proofs.BothSubstitutions.{place_in}

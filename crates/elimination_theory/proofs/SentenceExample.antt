@@ -3,15 +3,15 @@ use Rattle.std.proofs.Common.{◌≡◌, ℕ, ◌*◌, ap, arith, nat_eq}
 use Rattle.std.proofs.Math.IntN.{ℤ, pos, negsuc, ◌+ℤ◌, ◌*ℤ◌}
 use Rattle.std.specs.Prelude.{◌<ℤ◌}
 use Rattle.std.proofs.lemmas.Int.{ints}
-use Rattle.formula_meaning.specs.Context.{Context, Fields, Integers}
-use Rattle.formula_meaning.specs.Point.{Point, Of, move}
-use Rattle.formula_meaning.specs.Form.{value}
-use Rattle.formula_meaning.specs.Formula.{One, Ex}
-use Rattle.formula_meaning.specs.Atom.{Compare, Above}
-use Rattle.formula_meaning.specs.Tree.{TrueAt}
+use Rattle.logic_meaning.specs.Context.{Context, Fields, Integers}
+use Rattle.logic_meaning.specs.Point.{Point, Of, move}
+use Rattle.logic_meaning.specs.Form.{value}
+use Rattle.logic_meaning.specs.Formula.{One, Ex}
+use Rattle.logic_meaning.specs.Atom.{Compare, Above}
+use Rattle.logic_meaning.specs.Tree.{TrueAt}
 use Rattle.elimination_theory.specs.FieldsExample.{difference}
-use Rattle.formula_meaning.proofs.Equivalence.{one_allowed}
-use Rattle.formula_meaning.proofs.TreeReplacing.{moved_of}
+use Rattle.formula_laws.proofs.Equivalence.{one_allowed}
+use Rattle.formula_laws.proofs.TreeReplacing.{moved_of}
 use Rattle.elimination_theory.specs.SentenceExample.{SomeHalfIsDecided, NoneGreatestIsTrue}
 
 half_of : (b : ℕ) → (pos 2 *ℤ pos b +ℤ pos 0) +ℤ negsuc 0 *ℤ pos (b * 2) ≡ pos 0

@@ -1,25 +1,25 @@
 -- With a name at a place an atom becomes a constant or an atom of the theory; formulas built by and and or stay so.
 use Rattle.std.proofs.Common.{◌≡◌, ℕ, suc, zero, ◌*◌, ap, refl, ◌∙◌, mul-pos}
 use Rattle.std.proofs.Math.IntN.{ℤ, pos, negsuc, neg_ℤ}
-use Rattle.formula_meaning.specs.Context.{Context, Fields, Integers}
-use Rattle.formula_meaning.specs.Formula.{Yes, No, One}
-use Rattle.formula_meaning.specs.Form.{Form, coefficient}
-use Rattle.formula_meaning.specs.Plain.{IsAtomic, IsPlain}
-use Rattle.formula_meaning.specs.Sizes.{nodes}
-use Rattle.formula_meaning.specs.Atom.{Atom, Compare, Congruent, Relation, Equals, Differs, Below, AtMost, Above, AtLeast, form_of, mirrored}
-use Rattle.formula_meaning.specs.TheoryAtoms.{AtomIn}
-use Rattle.formula_meaning.specs.Replaced.{replaced}
-use Rattle.formula_meaning.specs.Answer.{Place, Exact, AboveBy, BelowBy, PlusInfinity, MinusInfinity, Periodic}
-use Rattle.formula_meaning.specs.Tree.{Tree}
-use Rattle.formula_meaning.specs.Equivalence.{InContext}
-use Rattle.formula_meaning.proofs.EachAtom.{every_map}
-use Rattle.formula_meaning.proofs.ReplacedShape.{plain_stays, every_replaced}
-use Rattle.elimination_theory.specs.Substitution.{form_at, below_all, beyond, exactly, where_zero}
-use Rattle.elimination_theory.specs.FieldsSubstitution.{just_above, just_below, beside}
-use Rattle.elimination_theory.specs.IntegersSubstitution.{put_number, along, integer_guard}
-use Rattle.elimination_theory.specs.BothTheories.{IsPlaceIn, raw_atom}
+use Rattle.logic_meaning.specs.Context.{Context, Fields, Integers}
+use Rattle.logic_meaning.specs.Formula.{Yes, No, One}
+use Rattle.logic_meaning.specs.Form.{Form, coefficient}
+use Rattle.logic_meaning.specs.Plain.{IsAtomic, IsPlain}
+use Rattle.logic_meaning.specs.Sizes.{nodes}
+use Rattle.logic_meaning.specs.Atom.{Atom, Compare, Congruent, Relation, Equals, Differs, Below, AtMost, Above, AtLeast, form_of, mirrored}
+use Rattle.formula_laws.specs.TheoryAtoms.{AtomIn}
+use Rattle.logic_meaning.specs.Replaced.{replaced}
+use Rattle.logic_meaning.specs.Answer.{Place, Exact, AboveBy, BelowBy, PlusInfinity, MinusInfinity, Periodic}
+use Rattle.logic_meaning.specs.Tree.{Tree}
+use Rattle.formula_laws.specs.Equivalence.{InContext}
+use Rattle.formula_laws.proofs.EachAtom.{every_map}
+use Rattle.formula_laws.proofs.ReplacedShape.{plain_stays, every_replaced}
+use Rattle.logic_meaning.specs.Substitution.{form_at, below_all, beyond, exactly, where_zero}
+use Rattle.logic_meaning.specs.FieldsSubstitution.{just_above, just_below, beside}
+use Rattle.logic_meaning.specs.IntegersSubstitution.{put_number, along, integer_guard}
+use Rattle.logic_meaning.specs.BothTheories.{IsPlaceIn, raw_atom}
 use Rattle.elimination_theory.specs.Places.{substitution}
-use Rattle.elimination_theory.specs.Steps.{normalised}
+use Rattle.logic_meaning.specs.Steps.{normalised}
 use Rattle.elimination_theory.specs.StepTheorems.{IsNormaliser}
 
 -- a constant, or one atom of the theory

@@ -1,16 +1,16 @@
 -- A list without repeats has each element once.
 use Rattle.std.proofs.Common.{ap, sym, ◌∷◌, flat_map}
-use Rattle.formula_meaning.specs.Answer.{same_place}
-use Rattle.formula_meaning.specs.Same.{same_atom}
-use Rattle.elimination_theory.specs.Atoms.{atoms_in, atoms_of}
-use Rattle.elimination_theory.specs.FieldsPoints.{infinity_of, atom_points}
-use Rattle.elimination_theory.specs.IntegersPoints.{points_with}
+use Rattle.logic_meaning.specs.Answer.{same_place}
+use Rattle.logic_meaning.specs.Same.{same_atom}
+use Rattle.logic_meaning.specs.Atoms.{atoms_in, atoms_of}
+use Rattle.logic_meaning.specs.FieldsPoints.{infinity_of, atom_points}
+use Rattle.logic_meaning.specs.IntegersPoints.{points_with}
 use Rattle.elimination_theory.specs.IntegersPointTrees.{integer_scale, integer_span}
 use Rattle.elimination_theory.specs.PointsTheorems.{PointsStandOnce, AtomsMayRepeat}
-use Rattle.formula_meaning.proofs.Listed.{distinct_once}
-use Rattle.formula_meaning.specs.Distinct.{without_same}
-use Rattle.formula_meaning.proofs.Once.{once_is_enough}
-use Rattle.formula_meaning.proofs.Same.{atom_same, place_same, atom_alike, place_alike}
+use Rattle.formula_laws.proofs.Listed.{distinct_once}
+use Rattle.logic_meaning.specs.Distinct.{without_same}
+use Rattle.formula_laws.proofs.Once.{once_is_enough}
+use Rattle.formula_laws.proofs.Same.{atom_same, place_same, atom_alike, place_alike}
 
 pub points_once : PointsStandOnce
 points_once side x f = (

@@ -6,14 +6,14 @@ use Rattle.std.proofs.lemmas.Int.{ints}
 use Rattle.std.specs.Prelude.{unsigned_abs}
 use Rattle.exact_numbers.specs.Limit.{InLimit, PastLimit}
 use Rattle.exact_numbers.proofs.Ring.{mul_zero}
-use Rattle.formula_meaning.specs.Form.{Form, Term, multiple, coefficient}
-use Rattle.formula_meaning.specs.Combining.{AddWithin, CombinesWithin, AddPasses, CombinePasses}
-use Rattle.formula_meaning.specs.Some.{EachOf}
-use Rattle.formula_meaning.specs.Answer.{Place, Exact, AboveBy, BelowBy, PlusInfinity, MinusInfinity, Periodic}
-use Rattle.formula_meaning.proofs.Same.{and_left, and_right, both_true}
-use Rattle.elimination_theory.specs.Overflow.{FormWithin, PlaceWithin}
+use Rattle.logic_meaning.specs.Form.{Form, Term, multiple, coefficient}
+use Rattle.logic_meaning.specs.Combining.{AddWithin, CombinesWithin, AddPasses, CombinePasses}
+use Rattle.logic_meaning.specs.Some.{EachOf}
+use Rattle.logic_meaning.specs.Answer.{Place, Exact, AboveBy, BelowBy, PlusInfinity, MinusInfinity, Periodic}
+use Rattle.formula_laws.proofs.Same.{and_left, and_right, both_true}
+use Rattle.logic_meaning.specs.Overflow.{FormWithin, PlaceWithin}
 use Rattle.elimination_theory.proofs.SomeListed.{each_left, each_right}
-use Rattle.formula_meaning.specs.Limits.{each, is_within, form_within, place_within, sum_within, combination_within}
+use Rattle.logic_meaning.specs.Limits.{each, is_within, form_within, place_within, sum_within, combination_within}
 
 -- the test is true exactly where P holds
 abbrev pub Tests : Bool → Type 0 → Type 0

@@ -1,13 +1,13 @@
 -- Answers over the integers whose period is one of the branch, and not of the formula: x = y and (4 divides x + y + 1 or 3 divides y).
 use Rattle.std.specs.Prelude.{pos, negsuc, [], ◌∷◌, true}
-use Rattle.formula_meaning.specs.Context.{Integers}
-use Rattle.formula_meaning.specs.Formula.{Yes, One, And, Or}
-use Rattle.formula_meaning.specs.NegationNormal.{both}
-use Rattle.formula_meaning.specs.Atom.{Compare, Congruent, Equals}
-use Rattle.formula_meaning.specs.Answer.{Exact, Periodic}
-use Rattle.formula_meaning.specs.Tree.{Tree}
+use Rattle.logic_meaning.specs.Context.{Integers}
+use Rattle.logic_meaning.specs.Formula.{Yes, One, And, Or}
+use Rattle.logic_meaning.specs.NegationNormal.{both}
+use Rattle.logic_meaning.specs.Atom.{Compare, Congruent, Equals}
+use Rattle.logic_meaning.specs.Answer.{Exact, Periodic}
+use Rattle.logic_meaning.specs.Tree.{Tree}
 use Rattle.elimination_theory.specs.FieldsExample.{multiple_of, named, difference}
-use Rattle.elimination_theory.specs.Answers.{Step}
+use Rattle.logic_meaning.specs.Answers.{Step}
 use Rattle.elimination_theory.specs.AnswersTheorems.{Lead}
 
 -- x and y are the names 0 and 1

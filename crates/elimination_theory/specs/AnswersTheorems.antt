@@ -1,13 +1,13 @@
 -- What is proved of the answers of steps.
 use Rattle.std.specs.Prelude.{ℕ, ◌↔◌, List, [], ◌∷◌}
-use Rattle.formula_meaning.specs.Context.{Context}
-use Rattle.formula_meaning.specs.Point.{Point, Of}
-use Rattle.formula_meaning.specs.Plain.{IsPlain}
-use Rattle.formula_meaning.specs.Answer.{Holds}
-use Rattle.formula_meaning.specs.Tree.{Tree, TrueAt, IsFree}
-use Rattle.formula_meaning.specs.Equivalence.{InContext, Equivalent}
+use Rattle.logic_meaning.specs.Context.{Context}
+use Rattle.logic_meaning.specs.Point.{Point, Of}
+use Rattle.logic_meaning.specs.Plain.{IsPlain}
+use Rattle.logic_meaning.specs.Answer.{Holds}
+use Rattle.logic_meaning.specs.Tree.{Tree, TrueAt, IsFree}
+use Rattle.formula_laws.specs.Equivalence.{InContext, Equivalent}
 use Rattle.elimination_theory.specs.Places.{IsPlaceFor, substitution}
-use Rattle.elimination_theory.specs.Answers.{Step, answers_of, zero_place}
+use Rattle.logic_meaning.specs.Answers.{Step, answers_of, zero_place}
 
 -- the step makes g of its branch: the place suits the branch, and g is equivalent to the substitution into it
 pub record Makes (c : Context) (s : Step) (g : Tree) : Type 0 where

@@ -1,16 +1,16 @@
 -- What elimination says of truth itself.
 use Rattle.std.specs.Prelude.{ℕ, ◌⊎◌, ◌↔◌}
-use Rattle.formula_meaning.specs.Context.{Context, Fields}
-use Rattle.formula_meaning.specs.Point.{Point, Of}
-use Rattle.formula_meaning.specs.Formula.{Ex, All, Not, none, also}
-use Rattle.formula_meaning.specs.Plain.{IsPlain}
-use Rattle.formula_meaning.specs.Every.{Every}
-use Rattle.formula_meaning.specs.Atom.{Atom}
-use Rattle.formula_meaning.specs.TheoryAtoms.{AtomIn, opposite}
-use Rattle.formula_meaning.specs.NegationNormal.{normal_form, normal_form_of_not}
-use Rattle.formula_meaning.specs.Tree.{Tree, Trees, TrueAt, IsFree}
-use Rattle.formula_meaning.specs.Equivalence.{InContext, Equivalent, IsNegation}
-use Rattle.elimination_theory.specs.declared.side.Side.{Side}
+use Rattle.logic_meaning.specs.Context.{Context, Fields}
+use Rattle.logic_meaning.specs.Point.{Point, Of}
+use Rattle.logic_meaning.specs.Formula.{Ex, All, Not, none, also}
+use Rattle.logic_meaning.specs.Plain.{IsPlain}
+use Rattle.logic_meaning.specs.Every.{Every}
+use Rattle.logic_meaning.specs.Atom.{Atom}
+use Rattle.formula_laws.specs.TheoryAtoms.{AtomIn, opposite}
+use Rattle.logic_meaning.specs.NegationNormal.{normal_form, normal_form_of_not}
+use Rattle.logic_meaning.specs.Tree.{Tree, Trees, TrueAt, IsFree}
+use Rattle.formula_laws.specs.Equivalence.{InContext, Equivalent, IsNegation}
+use Rattle.logic_meaning.specs.declared.side.Side.{Side}
 use Rattle.elimination_theory.specs.Elimination.{field_elimination}
 
 -- g is equivalent to f, is built by and and or alone, and has no other free names

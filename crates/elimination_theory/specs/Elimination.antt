@@ -1,10 +1,10 @@
 -- The disjunction over all test points: a formula without the quantifier.
 use Rattle.std.specs.Prelude.{ℕ, List, [], ◌∷◌}
-use Rattle.formula_meaning.specs.Formula.{Or, none, also}
-use Rattle.formula_meaning.specs.Answer.{Place}
-use Rattle.formula_meaning.specs.Tree.{Tree, Trees}
-use Rattle.elimination_theory.specs.declared.side.Side.{Side}
-use Rattle.elimination_theory.specs.FieldsPoints.{field_points}
+use Rattle.logic_meaning.specs.Formula.{Or, none, also}
+use Rattle.logic_meaning.specs.Answer.{Place}
+use Rattle.logic_meaning.specs.Tree.{Tree, Trees}
+use Rattle.logic_meaning.specs.declared.side.Side.{Side}
+use Rattle.logic_meaning.specs.FieldsPoints.{field_points}
 use Rattle.elimination_theory.specs.FieldsTrees.{field_substitution}
 use Rattle.elimination_theory.specs.IntegersTrees.{guarded_substitution}
 use Rattle.elimination_theory.specs.IntegersPointTrees.{integer_points}

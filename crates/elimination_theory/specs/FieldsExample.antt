@@ -1,15 +1,15 @@
 -- The formula x > a and x < b, worked through: its test points, their substitutions, and why epsilon is needed.
 use Rattle.std.specs.Prelude.{◌≡◌, ℕ, ℤ, pos, negsuc, [], ◌∷◌, if◌then◌else◌, nat_eq}
-use Rattle.formula_meaning.specs.Context.{Fields}
-use Rattle.formula_meaning.specs.Point.{Point}
-use Rattle.formula_meaning.specs.Formula.{Yes, No, One, And, Ex}
-use Rattle.formula_meaning.specs.Form.{Form, Term}
-use Rattle.formula_meaning.specs.Atom.{Compare, Below, Above, AtLeast}
-use Rattle.formula_meaning.specs.NegationNormal.{both}
-use Rattle.formula_meaning.specs.Answer.{Exact, AboveBy, BelowBy, MinusInfinity, PlusInfinity, Holds}
-use Rattle.formula_meaning.specs.Tree.{Tree, TrueAt}
-use Rattle.elimination_theory.specs.declared.side.Side.TheVariants.{Lower, Upper}
-use Rattle.elimination_theory.specs.FieldsPoints.{field_points}
+use Rattle.logic_meaning.specs.Context.{Fields}
+use Rattle.logic_meaning.specs.Point.{Point}
+use Rattle.logic_meaning.specs.Formula.{Yes, No, One, And, Ex}
+use Rattle.logic_meaning.specs.Form.{Form, Term}
+use Rattle.logic_meaning.specs.Atom.{Compare, Below, Above, AtLeast}
+use Rattle.logic_meaning.specs.NegationNormal.{both}
+use Rattle.logic_meaning.specs.Answer.{Exact, AboveBy, BelowBy, MinusInfinity, PlusInfinity, Holds}
+use Rattle.logic_meaning.specs.Tree.{Tree, TrueAt}
+use Rattle.logic_meaning.specs.declared.side.Side.TheVariants.{Lower, Upper}
+use Rattle.logic_meaning.specs.FieldsPoints.{field_points}
 use Rattle.elimination_theory.specs.FieldsTrees.{field_substitution}
 use Rattle.elimination_theory.specs.AtPlace.{at_place}
 

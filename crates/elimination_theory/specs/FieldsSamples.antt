@@ -1,19 +1,19 @@
 -- Samples over the ordered fields: a value of the name for each place, at which a formula that holds at the place is true.
 -- A value is a fraction k/m over the denominator of the point: the name's value is k / (m * below).
 use Rattle.std.specs.Prelude.{◌≡◌, ℕ, ◌*◌, ◌<◌, ℤ, pos, ◌+ℤ◌, ◌-ℤ◌, ◌*ℤ◌, ◌⊎◌, nat_eq}
-use Rattle.formula_meaning.specs.Context.{Fields}
-use Rattle.formula_meaning.specs.Point.{Point, Of, move}
-use Rattle.formula_meaning.specs.Form.{coefficient, value}
-use Rattle.formula_meaning.specs.Some.{SomeOf}
-use Rattle.formula_meaning.specs.Plain.{IsPlain}
-use Rattle.formula_meaning.specs.Atom.{form_of}
-use Rattle.formula_meaning.specs.Answer.{Place, Exact, AboveBy, BelowBy, PlusInfinity, MinusInfinity, Periodic, Holds}
-use Rattle.formula_meaning.specs.Tree.{Tree, TrueAt}
-use Rattle.formula_meaning.specs.Equivalence.{InContext}
-use Rattle.elimination_theory.specs.Atoms.{atoms_of}
-use Rattle.elimination_theory.specs.FieldsSubstitution.{IsFieldPlace}
+use Rattle.logic_meaning.specs.Context.{Fields}
+use Rattle.logic_meaning.specs.Point.{Point, Of, move}
+use Rattle.logic_meaning.specs.Form.{coefficient, value}
+use Rattle.logic_meaning.specs.Some.{SomeOf}
+use Rattle.logic_meaning.specs.Plain.{IsPlain}
+use Rattle.logic_meaning.specs.Atom.{form_of}
+use Rattle.logic_meaning.specs.Answer.{Place, Exact, AboveBy, BelowBy, PlusInfinity, MinusInfinity, Periodic, Holds}
+use Rattle.logic_meaning.specs.Tree.{Tree, TrueAt}
+use Rattle.formula_laws.specs.Equivalence.{InContext}
+use Rattle.logic_meaning.specs.Atoms.{atoms_of}
+use Rattle.logic_meaning.specs.FieldsSubstitution.{IsFieldPlace}
 use Rattle.elimination_theory.specs.AtPlace.{at_place}
-use Rattle.elimination_theory.specs.FieldsOrder.{IsLess}
+use Rattle.logic_meaning.specs.FieldsOrder.{IsLess}
 
 -- k/m is a critical value: some comparison with the name has the value 0 there
 abbrev pub IsCritical : ℕ → Tree → Point ℕ → ℤ → ℕ → Type 0

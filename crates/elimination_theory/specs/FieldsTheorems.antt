@@ -1,19 +1,19 @@
 -- The theorems of elimination over the ordered fields, as statements.
 use Rattle.std.specs.Prelude.{ℕ, ◌↔◌}
-use Rattle.formula_meaning.specs.Context.{Fields}
-use Rattle.formula_meaning.specs.Point.{Point, Of}
-use Rattle.formula_meaning.specs.Formula.{Ex, One}
-use Rattle.formula_meaning.specs.Some.{SomeOf}
-use Rattle.formula_meaning.specs.Plain.{IsPlain}
-use Rattle.formula_meaning.specs.Atom.{Atom}
-use Rattle.formula_meaning.specs.TheoryAtoms.{AtomIn}
-use Rattle.formula_meaning.specs.Answer.{Place, Holds}
-use Rattle.formula_meaning.specs.Tree.{Tree, TrueAt}
-use Rattle.formula_meaning.specs.Equivalence.{InContext}
-use Rattle.elimination_theory.specs.declared.side.Side.{Side}
+use Rattle.logic_meaning.specs.Context.{Fields}
+use Rattle.logic_meaning.specs.Point.{Point, Of}
+use Rattle.logic_meaning.specs.Formula.{Ex, One}
+use Rattle.logic_meaning.specs.Some.{SomeOf}
+use Rattle.logic_meaning.specs.Plain.{IsPlain}
+use Rattle.logic_meaning.specs.Atom.{Atom}
+use Rattle.formula_laws.specs.TheoryAtoms.{AtomIn}
+use Rattle.logic_meaning.specs.Answer.{Place, Holds}
+use Rattle.logic_meaning.specs.Tree.{Tree, TrueAt}
+use Rattle.formula_laws.specs.Equivalence.{InContext}
+use Rattle.logic_meaning.specs.declared.side.Side.{Side}
 use Rattle.elimination_theory.specs.AtPlace.{at_place}
-use Rattle.elimination_theory.specs.FieldsPoints.{field_points}
-use Rattle.elimination_theory.specs.FieldsSubstitution.{field_atom, IsFieldPlace}
+use Rattle.logic_meaning.specs.FieldsPoints.{field_points}
+use Rattle.logic_meaning.specs.FieldsSubstitution.{field_atom, IsFieldPlace}
 use Rattle.elimination_theory.specs.FieldsTrees.{field_substitution}
 
 -- An atom's substitution is true exactly where the place makes the atom true.

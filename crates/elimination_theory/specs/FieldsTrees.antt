@@ -1,9 +1,9 @@
 -- A formula put to a place of the fields.
 use Rattle.std.specs.Prelude.{ℕ}
-use Rattle.formula_meaning.specs.Answer.{Place}
-use Rattle.formula_meaning.specs.Replaced.{replaced}
-use Rattle.formula_meaning.specs.Tree.{Tree}
-use Rattle.elimination_theory.specs.FieldsSubstitution.{field_atom}
+use Rattle.logic_meaning.specs.Answer.{Place}
+use Rattle.logic_meaning.specs.Replaced.{replaced}
+use Rattle.logic_meaning.specs.Tree.{Tree}
+use Rattle.logic_meaning.specs.FieldsSubstitution.{field_atom}
 
 -- a formula with x at the place
 abbrev pub field_substitution : ℕ → Place → Tree → Tree

@@ -1,26 +1,26 @@
 -- Examples over the integers that compute, and definitions that would be wrong. The names x and a are the numbers 0 and 1.
 use Rattle.std.specs.Prelude.{◌≡◌, ℕ, ℤ, pos, negsuc, [], ◌∷◌, flat_map, true}
-use Rattle.formula_meaning.specs.Context.{Integers}
-use Rattle.formula_meaning.specs.Point.{Point, Of}
-use Rattle.formula_meaning.specs.Formula.{Ex, One, And, also, none}
-use Rattle.formula_meaning.specs.Every.{Every}
-use Rattle.formula_meaning.specs.Some.{SomeOf}
-use Rattle.formula_meaning.specs.Plain.{IsPlain}
-use Rattle.formula_meaning.specs.Form.{Form, Term}
-use Rattle.formula_meaning.specs.Atom.{Compare, Congruent, Equals, Above, AtMost}
-use Rattle.formula_meaning.specs.Answer.{Place, Exact, Periodic, Holds}
-use Rattle.formula_meaning.specs.Tree.{Tree, TrueAt}
-use Rattle.formula_meaning.specs.Equivalence.{InContext}
-use Rattle.elimination_theory.specs.Atoms.{atoms_of}
-use Rattle.elimination_theory.specs.declared.side.Side.{Side}
-use Rattle.elimination_theory.specs.declared.side.Side.TheVariants.{Lower, Upper}
+use Rattle.logic_meaning.specs.Context.{Integers}
+use Rattle.logic_meaning.specs.Point.{Point, Of}
+use Rattle.logic_meaning.specs.Formula.{Ex, One, And, also, none}
+use Rattle.logic_meaning.specs.Every.{Every}
+use Rattle.logic_meaning.specs.Some.{SomeOf}
+use Rattle.logic_meaning.specs.Plain.{IsPlain}
+use Rattle.logic_meaning.specs.Form.{Form, Term}
+use Rattle.logic_meaning.specs.Atom.{Compare, Congruent, Equals, Above, AtMost}
+use Rattle.logic_meaning.specs.Answer.{Place, Exact, Periodic, Holds}
+use Rattle.logic_meaning.specs.Tree.{Tree, TrueAt}
+use Rattle.formula_laws.specs.Equivalence.{InContext}
+use Rattle.logic_meaning.specs.Atoms.{atoms_of}
+use Rattle.logic_meaning.specs.declared.side.Side.{Side}
+use Rattle.logic_meaning.specs.declared.side.Side.TheVariants.{Lower, Upper}
 use Rattle.elimination_theory.specs.AtPlace.{at_place}
-use Rattle.elimination_theory.specs.IntegersSubstitution.{integer_guard}
+use Rattle.logic_meaning.specs.IntegersSubstitution.{integer_guard}
 use Rattle.elimination_theory.specs.IntegersTrees.{integer_substitution}
-use Rattle.elimination_theory.specs.IntegersPoints.{next_points, atom_starts, points_with}
+use Rattle.logic_meaning.specs.IntegersPoints.{next_points, atom_starts, points_with}
 use Rattle.elimination_theory.specs.IntegersPointTrees.{integer_scale, integer_span, integer_points}
 use Rattle.elimination_theory.specs.IntegersTheorems.{Suits}
-use Rattle.elimination_theory.specs.IntegerPlace.{IsIntegerPlace}
+use Rattle.logic_meaning.specs.IntegerPlace.{IsIntegerPlace}
 
 -- n * x
 abbrev pub x_term : ℤ → Term

@@ -1,10 +1,10 @@
 -- Scale, span and test points of a formula over the integers.
 use Rattle.std.specs.Prelude.{ℕ, List}
-use Rattle.formula_meaning.specs.Answer.{Place}
-use Rattle.formula_meaning.specs.Tree.{Tree}
-use Rattle.elimination_theory.specs.Atoms.{atoms_of}
-use Rattle.elimination_theory.specs.declared.side.Side.{Side}
-use Rattle.elimination_theory.specs.IntegersPoints.{scale_of, own_span, integer_points_of}
+use Rattle.logic_meaning.specs.Answer.{Place}
+use Rattle.logic_meaning.specs.Tree.{Tree}
+use Rattle.logic_meaning.specs.Atoms.{atoms_of}
+use Rattle.logic_meaning.specs.declared.side.Side.{Side}
+use Rattle.logic_meaning.specs.IntegersPoints.{scale_of, own_span, integer_points_of}
 
 -- the same of a name in a formula
 abbrev pub integer_scale : ℕ → Tree → ℕ

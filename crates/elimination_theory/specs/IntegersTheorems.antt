@@ -1,26 +1,26 @@
 -- The theorems of elimination over the integers, as statements.
 use Rattle.std.specs.Prelude.{◌+◌, length, flat_map, ◌*◌, ◌/◌, unsigned_abs, ◌≡◌, ℕ, ℤ, pos, ◌*ℤ◌, ◌<◌, ◌↔◌, List}
 use Rattle.exact_numbers.specs.Divides.{Divides}
-use Rattle.formula_meaning.specs.Context.{Integers}
-use Rattle.formula_meaning.specs.Point.{Point, Of}
-use Rattle.formula_meaning.specs.Formula.{Ex, One}
-use Rattle.formula_meaning.specs.Every.{Every}
-use Rattle.formula_meaning.specs.Some.{SomeOf, EachOf}
-use Rattle.formula_meaning.specs.Plain.{IsPlain}
-use Rattle.formula_meaning.specs.Form.{coefficient}
-use Rattle.formula_meaning.specs.Atom.{form_of, Atom, Compare, Congruent}
-use Rattle.formula_meaning.specs.TheoryAtoms.{AtomIn}
-use Rattle.formula_meaning.specs.Answer.{Place, Exact, AboveBy, BelowBy, PlusInfinity, MinusInfinity, Periodic, Holds}
-use Rattle.formula_meaning.specs.Tree.{Tree, TrueAt}
-use Rattle.formula_meaning.specs.Equivalence.{InContext, Equivalent}
+use Rattle.logic_meaning.specs.Context.{Integers}
+use Rattle.logic_meaning.specs.Point.{Point, Of}
+use Rattle.logic_meaning.specs.Formula.{Ex, One}
+use Rattle.logic_meaning.specs.Every.{Every}
+use Rattle.logic_meaning.specs.Some.{SomeOf, EachOf}
+use Rattle.logic_meaning.specs.Plain.{IsPlain}
+use Rattle.logic_meaning.specs.Form.{coefficient}
+use Rattle.logic_meaning.specs.Atom.{form_of, Atom, Compare, Congruent}
+use Rattle.formula_laws.specs.TheoryAtoms.{AtomIn}
+use Rattle.logic_meaning.specs.Answer.{Place, Exact, AboveBy, BelowBy, PlusInfinity, MinusInfinity, Periodic, Holds}
+use Rattle.logic_meaning.specs.Tree.{Tree, TrueAt}
+use Rattle.formula_laws.specs.Equivalence.{InContext, Equivalent}
 use Rattle.elimination_theory.specs.AtPlace.{at_place}
-use Rattle.elimination_theory.specs.declared.side.Side.{Side}
-use Rattle.elimination_theory.specs.IntegersSubstitution.{integer_atom, integer_guard}
+use Rattle.logic_meaning.specs.declared.side.Side.{Side}
+use Rattle.logic_meaning.specs.IntegersSubstitution.{integer_atom, integer_guard}
 use Rattle.elimination_theory.specs.IntegersTrees.{integer_substitution}
 use Rattle.elimination_theory.specs.Elimination.{integer_elimination}
-use Rattle.elimination_theory.specs.IntegersPoints.{scale_of, own_span, integer_count_of, atom_starts}
+use Rattle.logic_meaning.specs.IntegersPoints.{scale_of, own_span, integer_count_of, atom_starts}
 use Rattle.elimination_theory.specs.IntegersPointTrees.{integer_scale, integer_span, integer_points}
-use Rattle.elimination_theory.specs.IntegerPlace.{IsIntegerPlace}
+use Rattle.logic_meaning.specs.IntegerPlace.{IsIntegerPlace}
 
 -- a step by the period takes the atom's form to a number of the same remainder
 abbrev pub IsPeriodOf : ℕ → ℤ → Atom → Type 0

@@ -1,11 +1,11 @@
 -- A formula put to a place of the integers, and the guard of the place.
 use Rattle.std.specs.Prelude.{ℕ}
-use Rattle.formula_meaning.specs.Formula.{And}
-use Rattle.formula_meaning.specs.NegationNormal.{both}
-use Rattle.formula_meaning.specs.Answer.{Place}
-use Rattle.formula_meaning.specs.Replaced.{replaced}
-use Rattle.formula_meaning.specs.Tree.{Tree}
-use Rattle.elimination_theory.specs.IntegersSubstitution.{integer_atom, integer_guard}
+use Rattle.logic_meaning.specs.Formula.{And}
+use Rattle.logic_meaning.specs.NegationNormal.{both}
+use Rattle.logic_meaning.specs.Answer.{Place}
+use Rattle.logic_meaning.specs.Replaced.{replaced}
+use Rattle.logic_meaning.specs.Tree.{Tree}
+use Rattle.logic_meaning.specs.IntegersSubstitution.{integer_atom, integer_guard}
 
 -- a formula with x at the place
 abbrev pub integer_substitution : ℕ → Place → Tree → Tree

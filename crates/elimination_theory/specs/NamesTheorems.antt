@@ -1,20 +1,20 @@
 -- Which names stand in a formula after elimination.
 use Rattle.std.specs.Prelude.{ℕ, ◌≡◌, ◌⊎◌}
-use Rattle.formula_meaning.specs.Context.{Fields, Integers}
-use Rattle.formula_meaning.specs.Formula.{Ex}
-use Rattle.formula_meaning.specs.Some.{SomeOf}
-use Rattle.formula_meaning.specs.Plain.{IsPlain}
-use Rattle.formula_meaning.specs.Answer.{Place, PlaceMentions}
-use Rattle.formula_meaning.specs.Tree.{Tree, IsFree}
-use Rattle.formula_meaning.specs.Equivalence.{InContext}
-use Rattle.elimination_theory.specs.declared.side.Side.{Side}
-use Rattle.elimination_theory.specs.FieldsPoints.{field_points}
-use Rattle.elimination_theory.specs.FieldsSubstitution.{IsFieldPlace}
+use Rattle.logic_meaning.specs.Context.{Fields, Integers}
+use Rattle.logic_meaning.specs.Formula.{Ex}
+use Rattle.logic_meaning.specs.Some.{SomeOf}
+use Rattle.logic_meaning.specs.Plain.{IsPlain}
+use Rattle.logic_meaning.specs.Answer.{Place, PlaceMentions}
+use Rattle.logic_meaning.specs.Tree.{Tree, IsFree}
+use Rattle.formula_laws.specs.Equivalence.{InContext}
+use Rattle.logic_meaning.specs.declared.side.Side.{Side}
+use Rattle.logic_meaning.specs.FieldsPoints.{field_points}
+use Rattle.logic_meaning.specs.FieldsSubstitution.{IsFieldPlace}
 use Rattle.elimination_theory.specs.FieldsTrees.{field_substitution}
 use Rattle.elimination_theory.specs.Elimination.{field_elimination, integer_elimination}
 use Rattle.elimination_theory.specs.IntegersPointTrees.{integer_points}
 use Rattle.elimination_theory.specs.IntegersTrees.{guarded_substitution}
-use Rattle.elimination_theory.specs.IntegerPlace.{IsIntegerPlace}
+use Rattle.logic_meaning.specs.IntegerPlace.{IsIntegerPlace}
 
 -- a name of f other than x, or a name of the place
 abbrev pub IsNameOf : ℕ → Place → Tree → ℕ → Type 0

@@ -1,17 +1,17 @@
 -- What is said of the lists of test points in both theories.
 use Rattle.std.specs.Prelude.{◌≡◌, ℕ, List}
-use Rattle.formula_meaning.specs.Context.{Context}
-use Rattle.formula_meaning.specs.Sorted.{IsSorted}
-use Rattle.formula_meaning.specs.Some.{Among, EachOf}
-use Rattle.formula_meaning.specs.Atom.{Atom, form_of}
-use Rattle.formula_meaning.specs.Answer.{Place, IsSortedPlace}
-use Rattle.formula_meaning.specs.Tree.{Tree}
-use Rattle.elimination_theory.specs.declared.side.Side.{Side}
-use Rattle.formula_meaning.specs.StandsOnce.{StandsOnce}
-use Rattle.elimination_theory.specs.FieldsPoints.{field_points, field_points_of}
+use Rattle.logic_meaning.specs.Context.{Context}
+use Rattle.logic_meaning.specs.Sorted.{IsSorted}
+use Rattle.logic_meaning.specs.Some.{Among, EachOf}
+use Rattle.logic_meaning.specs.Atom.{Atom, form_of}
+use Rattle.logic_meaning.specs.Answer.{Place, IsSortedPlace}
+use Rattle.logic_meaning.specs.Tree.{Tree}
+use Rattle.logic_meaning.specs.declared.side.Side.{Side}
+use Rattle.formula_laws.specs.StandsOnce.{StandsOnce}
+use Rattle.logic_meaning.specs.FieldsPoints.{field_points, field_points_of}
 use Rattle.elimination_theory.specs.IntegersPointTrees.{integer_points}
-use Rattle.elimination_theory.specs.Atoms.{atoms_in, atoms_of}
-use Rattle.elimination_theory.specs.BothTheories.{test_points}
+use Rattle.logic_meaning.specs.Atoms.{atoms_in, atoms_of}
+use Rattle.logic_meaning.specs.BothTheories.{test_points}
 
 -- each atom and each test point stands once in its list
 abbrev pub PointsStandOnce : Type 0

@@ -1,20 +1,20 @@
 -- Samples of answers found one after the other. The sample of an answer is taken in its branch with the values found so far
 -- put in and its atoms in normal form: over the integers normal form moves critical values.
 use Rattle.std.specs.Prelude.{◌≡◌, ℕ, ℤ, pos, ◌*ℤ◌, List, [], ◌∷◌, nat_eq}
-use Rattle.formula_meaning.specs.Context.{Context, Fields, Integers, Allowed}
-use Rattle.formula_meaning.specs.Point.{Point, Of, move}
-use Rattle.formula_meaning.specs.Every.{Every}
-use Rattle.formula_meaning.specs.Form.{Form, coefficient, without, value}
-use Rattle.formula_meaning.specs.Atom.{Atom, Compare, Congruent}
-use Rattle.formula_meaning.specs.TheoryAtoms.{AtomIn}
-use Rattle.formula_meaning.specs.Replaced.{replaced}
-use Rattle.formula_meaning.specs.Answer.{Place}
-use Rattle.formula_meaning.specs.Tree.{Tree, TrueAt}
+use Rattle.logic_meaning.specs.Context.{Context, Fields, Integers, Allowed}
+use Rattle.logic_meaning.specs.Point.{Point, Of, move}
+use Rattle.logic_meaning.specs.Every.{Every}
+use Rattle.logic_meaning.specs.Form.{Form, coefficient, without, value}
+use Rattle.logic_meaning.specs.Atom.{Atom, Compare, Congruent}
+use Rattle.formula_laws.specs.TheoryAtoms.{AtomIn}
+use Rattle.logic_meaning.specs.Replaced.{replaced}
+use Rattle.logic_meaning.specs.Answer.{Place}
+use Rattle.logic_meaning.specs.Tree.{Tree, TrueAt}
 use Rattle.elimination_theory.specs.FieldsSamples.{IsFieldSample}
 use Rattle.elimination_theory.specs.IntegersSample.{IsIntegerSample}
 use Rattle.elimination_theory.specs.IntegersTheorems.{IsPeriodOf}
 use Rattle.elimination_theory.specs.StepTheorems.{IsNormaliser}
-use Rattle.elimination_theory.specs.Answers.{Step}
+use Rattle.logic_meaning.specs.Answers.{Step}
 use Rattle.elimination_theory.specs.AnswersTheorems.{Lead}
 
 -- the form with the numbers of the point for all names but x, times the point's denominator

@@ -1,10 +1,10 @@
 -- Two sentences decided: one tells the theories apart.
 use Rattle.std.specs.Prelude.{ℕ, pos, negsuc, [], ◌∷◌}
-use Rattle.formula_meaning.specs.Context.{Context, Fields, Integers}
-use Rattle.formula_meaning.specs.Point.{Point, Of}
-use Rattle.formula_meaning.specs.Formula.{One, Ex, All}
-use Rattle.formula_meaning.specs.Atom.{Compare, Equals, Above}
-use Rattle.formula_meaning.specs.Tree.{Tree, TrueAt}
+use Rattle.logic_meaning.specs.Context.{Context, Fields, Integers}
+use Rattle.logic_meaning.specs.Point.{Point, Of}
+use Rattle.logic_meaning.specs.Formula.{One, Ex, All}
+use Rattle.logic_meaning.specs.Atom.{Compare, Equals, Above}
+use Rattle.logic_meaning.specs.Tree.{Tree, TrueAt}
 use Rattle.elimination_theory.specs.FieldsExample.{multiple_of, difference}
 
 -- ex(x, 2 * x = 1)

@@ -1,16 +1,16 @@
 -- Numbers of a step within a limit, wherever those of its parts are.
 use Rattle.std.specs.Prelude.{◌≡◌, ℕ, pos, ◌*◌, ◌/◌, unsigned_abs, List}
 use Rattle.exact_numbers.specs.Limit.{InLimit}
-use Rattle.formula_meaning.specs.Context.{Context, Fields, Integers}
-use Rattle.formula_meaning.specs.Some.{EachOf}
-use Rattle.formula_meaning.specs.Form.{coefficient}
-use Rattle.formula_meaning.specs.Atom.{Atom, Compare, Congruent, form_of}
-use Rattle.formula_meaning.specs.TheoryAtoms.{AtomIn}
-use Rattle.formula_meaning.specs.Answer.{Place}
-use Rattle.elimination_theory.specs.declared.side.Side.{Side}
-use Rattle.elimination_theory.specs.IntegersPoints.{scale_of, own_span}
-use Rattle.elimination_theory.specs.BothTheories.{test_points}
-use Rattle.elimination_theory.specs.Overflow.{PlaceWithin, NumbersWithin}
+use Rattle.logic_meaning.specs.Context.{Context, Fields, Integers}
+use Rattle.logic_meaning.specs.Some.{EachOf}
+use Rattle.logic_meaning.specs.Form.{coefficient}
+use Rattle.logic_meaning.specs.Atom.{Atom, Compare, Congruent, form_of}
+use Rattle.formula_laws.specs.TheoryAtoms.{AtomIn}
+use Rattle.logic_meaning.specs.Answer.{Place}
+use Rattle.logic_meaning.specs.declared.side.Side.{Side}
+use Rattle.logic_meaning.specs.IntegersPoints.{scale_of, own_span}
+use Rattle.logic_meaning.specs.BothTheories.{test_points}
+use Rattle.logic_meaning.specs.Overflow.{PlaceWithin, NumbersWithin}
 
 -- an atom without x stays, and forms none
 abbrev pub AtomWithin : ℕ → Place → Atom → Type 0

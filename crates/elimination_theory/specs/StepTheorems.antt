@@ -1,19 +1,19 @@
 -- What is proved of one step of elimination.
 use Rattle.std.specs.Prelude.{ℕ, ◌+◌, ◌*◌, ◌≤◌, List, [], ◌∷◌, length}
-use Rattle.formula_meaning.specs.Context.{Context}
-use Rattle.formula_meaning.specs.Formula.{One, Or, Ex, none, also}
-use Rattle.formula_meaning.specs.Atom.{Atom}
-use Rattle.formula_meaning.specs.TheoryAtoms.{AtomIn}
-use Rattle.formula_meaning.specs.Some.{Among}
-use Rattle.formula_meaning.specs.Sizes.{nodes, all_nodes}
-use Rattle.formula_meaning.specs.Plain.{IsAtomic, IsPlain}
-use Rattle.formula_meaning.specs.Tree.{Tree, Trees, IsFree}
-use Rattle.formula_meaning.specs.Equivalence.{InContext, Equivalent}
-use Rattle.elimination_theory.specs.declared.side.Side.{Side}
-use Rattle.elimination_theory.specs.Atoms.{atoms_of}
-use Rattle.elimination_theory.specs.BothTheories.{test_points}
+use Rattle.logic_meaning.specs.Context.{Context}
+use Rattle.logic_meaning.specs.Formula.{One, Or, Ex, none, also}
+use Rattle.logic_meaning.specs.Atom.{Atom}
+use Rattle.formula_laws.specs.TheoryAtoms.{AtomIn}
+use Rattle.logic_meaning.specs.Some.{Among}
+use Rattle.logic_meaning.specs.Sizes.{nodes, all_nodes}
+use Rattle.logic_meaning.specs.Plain.{IsAtomic, IsPlain}
+use Rattle.logic_meaning.specs.Tree.{Tree, Trees, IsFree}
+use Rattle.formula_laws.specs.Equivalence.{InContext, Equivalent}
+use Rattle.logic_meaning.specs.declared.side.Side.{Side}
+use Rattle.logic_meaning.specs.Atoms.{atoms_of}
+use Rattle.logic_meaning.specs.BothTheories.{test_points}
 use Rattle.elimination_theory.specs.Places.{IsPlaceFor, substitution}
-use Rattle.elimination_theory.specs.Steps.{Result, step}
+use Rattle.logic_meaning.specs.Steps.{Result, step}
 
 -- by makes of each atom of the theory a constant or an atom of the theory, of the same truth and without new names
 pub record IsNormaliser (c : Context) (by : Atom → Tree) : Type 0 where

@@ -1,6 +1,6 @@
 //! The lists of test points.
 
-ghost use Rattle.formula_meaning.specs.Context.{Context};
+ghost use Rattle.logic_meaning.specs.Context.{Context};
 ghost use Rattle.elimination_theory.specs.PointsTheorems.{PointsStandOnce, AtomsMayRepeat, PointsAreSorted};
 ghost use Rattle.elimination_theory.specs.LowestPoints.{FieldPointsAreInLowestTerms};
 

@@ -1,6 +1,6 @@
 //! Elimination step by step, as a program takes it, in both theories.
 
-ghost use Rattle.formula_meaning.specs.Context.{Context};
+ghost use Rattle.logic_meaning.specs.Context.{Context};
 ghost use Rattle.elimination_theory.specs.StepTheorems.{StepsAreExact};
 ghost use Rattle.elimination_theory.specs.AnswersTheorems.{AnswersHold, AbsentNameIsZero};
 ghost use Rattle.elimination_theory.specs.AnswersExample.{PeriodOfTheBranch};

@@ -2,7 +2,7 @@
 
 ghost use Rattle.elimination_theory.specs.Decided.{QuantifierIsEliminated, OneQuantifierSuffices, TruthIsDecided, QuantifiersAreEliminated, NegationNormalFormKeepsTruth, OppositeIsNegation, AllIsNotExNot};
 ghost use Rattle.elimination_theory.specs.SentenceExample.{SomeHalfIsDecided, NoneGreatestIsTrue};
-ghost use Rattle.formula_meaning.specs.Context.{Context};
+ghost use Rattle.logic_meaning.specs.Context.{Context};
 
 /// One quantifier over a formula built by `and` and `or` can be eliminated.
 pub fn one_quantifier_is_eliminated()

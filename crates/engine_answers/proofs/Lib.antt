@@ -1,7 +1,27 @@
+mod Chains
+pub mod Leading
+mod Closing
+mod Members
+mod Remembered
+pub mod Lacking
+pub mod Under
+pub mod InnerBlocksChains
+mod OneMore
+mod Trees
+mod WorkingFacts
+mod DirectForms
+mod DirectTrees
+pub mod Stops
+mod Together
+pub mod Searching
+pub mod Pointing
+pub mod Branching
+pub mod Answering
+pub mod Sampled
+pub mod Lowest
 mod Told
-mod Sampled
+mod EngineAnswersSampled
 pub mod Whole
-pub mod FromBlockScheduler
-pub mod FromPlainCases
-pub mod FromSharedElimination
-pub mod FromTheorySimplifier
+mod SentenceAnswersTold
+mod SentenceAnswersSampled
+mod Stopped

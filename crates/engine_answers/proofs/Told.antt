@@ -2,27 +2,30 @@
 use Rattle.std.proofs.Common.{◌≡◌, ◌↔◌, ℕ, zero, suc, ◌<◌, get_or, length, arith, ℤ, Bool, true, false, not, List, [], ◌∷◌, inl, inr, ⊎_elim, sym, ap, subst, unsigned_abs}
 use Rattle.std.proofs.Math.IntN.{pos}
 use Rattle.std.specs.Prelude.{◌<ℤ◌, IsTrue, Option, Some, None, MatchOption}
-use Rattle.formula_meaning.specs.Context.{Context, IsDenominator}
-use Rattle.formula_meaning.specs.Point.{Point, Of}
-use Rattle.formula_meaning.specs.Formula.{Or}
-use Rattle.formula_meaning.specs.Every.{Every}
-use Rattle.formula_meaning.specs.Some.{Among, EachOf}
-use Rattle.formula_meaning.specs.Atom.{Atom, Says}
-use Rattle.formula_meaning.specs.Tree.{Tree, TrueAt}
+use Rattle.logic_meaning.specs.Context.{Context, IsDenominator}
+use Rattle.logic_meaning.specs.Point.{Point, Of}
+use Rattle.logic_meaning.specs.Formula.{Or}
+use Rattle.logic_meaning.specs.Every.{Every}
+use Rattle.logic_meaning.specs.Some.{Among, EachOf}
+use Rattle.logic_meaning.specs.Atom.{Atom, Says}
+use Rattle.logic_meaning.specs.Tree.{Tree, TrueAt}
 use Rattle.elimination_theory.proofs.BothTheories.{decided}
-use Rattle.atom_normal.specs.NormalForm.{IsNormal}
-use Rattle.elimination_reference.specs.Cases.{case_sign, case_names}
-use Rattle.elimination_reference.specs.Reference.{normal_tree}
-use Rattle.elimination_reference.specs.Theorems.{IsTidy}
-use Rattle.elimination_reference.specs.AnswerParts.{guards_of}
-use Rattle.elimination_reference.proofs.Turning.{normal_inside}
+use Rattle.logic_meaning.specs.NormalForm.{IsNormal}
+use Rattle.logic_meaning.specs.Cases.{case_sign, case_names}
+use Rattle.logic_meaning.specs.Reference.{normal_tree}
+use Rattle.elimination_theory.specs.Theorems.{IsTidy}
+use Rattle.logic_meaning.specs.AnswerParts.{guards_of}
+use Rattle.elimination_theory.proofs.Turning.{normal_inside}
 use Rattle.formula_tree.specs.declared.shape.Shape.{Shape}
 use Rattle.formula_store.specs.declared.id.FormulaId.{FormulaId}
 use Rattle.formula_store.specs.Nodes.{tree, IsId}
 use Rattle.formula_store.specs.Truths.{Tells}
-use Rattle.block_scheduler.specs.FromCaseTheory.{without_all, IsCaseUnder, SaysUnder}
-use Rattle.block_scheduler.proofs.FromCaseTheory.{plain_free, without_all_each}
-use Rattle.block_scheduler.specs.FromCaseTrees.{Case, CaseTree, cases_seen, IsCaseTreeOf}
+use Rattle.case_theory.specs.CaseTree.{without_all, IsCaseUnder, SaysUnder}
+use Rattle.case_theory.proofs.Simplified.{plain_free}
+use Rattle.case_theory.proofs.Without.{without_all_each}
+use Rattle.engine_answers.specs.declared.case_tree.Case.{Case}
+use Rattle.engine_answers.specs.declared.case_tree.CaseTree.{CaseTree}
+use Rattle.engine_answers.specs.CaseTrees.{cases_seen, IsCaseTreeOf}
 use Rattle.engine_answers.specs.Truths.{CanBeTold}
 use Rattle.engine_answers.proofs.Whole.{whole_where_asked}
 

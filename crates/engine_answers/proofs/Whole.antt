@@ -3,15 +3,15 @@ use Rattle.std.proofs.Common.{◌≡◌, ⊎_elim, sym, ap, subst, ◌∙◌, ar
 use Rattle.std.proofs.Math.IntN.{ℤ, pos}
 use Rattle.std.proofs.lemmas.Int.{ints}
 use Rattle.std.specs.Prelude.{◌<ℤ◌}
-use Rattle.formula_meaning.specs.Context.{Context, Fields, Integers, IsDenominator}
-use Rattle.formula_meaning.specs.Formula.{Formula, Formulas, Yes, No, One, Not, And, Or, Impl, Repl, Equiv, Ex, All, none, also}
-use Rattle.formula_meaning.specs.Every.{Every, EveryOf}
-use Rattle.formula_meaning.specs.Atom.{Congruent}
-use Rattle.formula_meaning.specs.Sizes.{subtrees, all_subtrees}
-use Rattle.formula_meaning.specs.Some.{Among}
-use Rattle.formula_meaning.specs.Tree.{Tree}
-use Rattle.formula_meaning.proofs.Listed.{among_append}
-use Rattle.atom_normal.specs.NormalForm.{IsNormal}
+use Rattle.logic_meaning.specs.Context.{Context, Fields, Integers, IsDenominator}
+use Rattle.logic_meaning.specs.Formula.{Formula, Formulas, Yes, No, One, Not, And, Or, Impl, Repl, Equiv, Ex, All, none, also}
+use Rattle.logic_meaning.specs.Every.{Every, EveryOf}
+use Rattle.logic_meaning.specs.Atom.{Congruent}
+use Rattle.logic_meaning.specs.Sizes.{subtrees, all_subtrees}
+use Rattle.logic_meaning.specs.Some.{Among}
+use Rattle.logic_meaning.specs.Tree.{Tree}
+use Rattle.formula_laws.proofs.Listed.{among_append}
+use Rattle.logic_meaning.specs.NormalForm.{IsNormal}
 use Rattle.formula_store.specs.Truths.{IsWholeWhereAsked}
 
 module _ {A N : Type 0} (P : A → Type 0) (a : A) where

@@ -1,10 +1,10 @@
 -- The values of a sample in the order of the block.
 use Rattle.std.specs.Prelude.{◌≡◌, ℕ, List}
 use Rattle.exact_numbers.specs.declared.fraction.Fraction.{Fraction}
-use Rattle.formula_meaning.specs.Some.{Among, EachOf}
-use Rattle.linear_forms.specs.declared.form.VarId.{VarId}
+use Rattle.logic_meaning.specs.Some.{Among, EachOf}
+use Rattle.logic_meaning.specs.declared.form.VarId.{VarId}
 use Rattle.sample_reference.specs.Seen.{value_of}
-use Rattle.sample_reference.specs.Values.{Value, value_names}
+use Rattle.logic_meaning.specs.Values.{Value, value_names}
 
 -- one of the values, of this name
 pub record IsValueAmong (values : List Value) (name : ℕ) (v : VarId × Fraction) : Type 0 where

@@ -2,24 +2,27 @@
 
 ghost use Rattle.std.specs.Prelude.{◌≡◌, ◌≤◌, ℕ, IfOk, IfErr, MatchResult, map};
 ghost use Rattle.std.specs.List.{AllByRecursion};
-ghost use Rattle.formula_meaning.specs.Answer.{Place};
-ghost use Rattle.formula_meaning.specs.Every.{Every};
-ghost use Rattle.formula_meaning.specs.Some.{EachOf};
-ghost use Rattle.formula_meaning.specs.Tree.{Trees};
-ghost use Rattle.atom_normal.specs.Atoms.{context_of, atom_of, IsWellFormed};
-ghost use Rattle.atom_normal.specs.NormalForm.{IsNormal};
-ghost use Rattle.elimination_reference.specs.Reference.{reference, normal_tree};
+ghost use Rattle.logic_meaning.specs.Answer.{Place};
+ghost use Rattle.logic_meaning.specs.Every.{Every};
+ghost use Rattle.logic_meaning.specs.Some.{EachOf};
+ghost use Rattle.logic_meaning.specs.Tree.{Trees};
+ghost use Rattle.normal_atoms.specs.Atoms.{context_of, atom_of, IsWellFormed};
+ghost use Rattle.logic_meaning.specs.NormalForm.{IsNormal};
+ghost use Rattle.logic_meaning.specs.Reference.{reference, normal_tree};
 ghost use Rattle.formula_tree.specs.Makers.{Keeps};
 ghost use Rattle.formula_store.specs.Nodes.{tree, IsId};
-ghost use Rattle.block_scheduler.specs.FromPlainEngine.{StopsWith};
-ghost use Rattle.block_scheduler.specs.FromCaseTheory.{IsDirect};
-ghost use Rattle.block_scheduler.specs.FromCaseTrees.{IsCaseTreeOf};
-ghost use Rattle.block_scheduler.specs.Direct.{IsDirectTree};
+ghost use Rattle.reference_engine.specs.Told.{StopsWith};
+ghost use Rattle.logic_meaning.specs.Direct.{IsDirect};
+ghost use Rattle.engine_answers.specs.CaseTrees.{IsCaseTreeOf};
+ghost use Rattle.engine_answers.specs.Direct.{IsDirectTree};
 
-use atom_normal::{Atom, Context};
-use block_scheduler::{CaseTree, Limits, Measured, eliminate};
+use crate::case_tree::CaseTree;
+use crate::eliminating::eliminate;
+use crate::limits::Limits;
 use formula_store::{FormulaId, Store};
+use normal_atoms::{Atom, Context};
 use qe_parallel::Gate;
+use reference_engine::Measured;
 use std::alloc::Global;
 use std::thread::Threads;
 
@@ -34,7 +37,7 @@ pub struct Engine<'a, R, G> {
 }
 
 impl<R: Threads + Sync, G: Gate + Sync> Engine<'_, R, G> {
-    /// The cases of the leading block of the formula under the atoms, as `block_scheduler::eliminate` gives them.
+    /// The cases of the leading block of the formula under the atoms, as `crate::eliminate` gives them.
     pub fn cases(
         &self,
         store: &mut Store,

@@ -1,24 +1,25 @@
 //! The reference sample of a formula at a point.
 
 ghost use Rattle.std.specs.Prelude.{IfOk, IfErr};
-ghost use Rattle.formula_meaning.specs.Every.{Every};
-ghost use Rattle.formula_meaning.specs.Point.{Of};
-ghost use Rattle.atom_normal.specs.Atoms.{context_of};
-ghost use Rattle.atom_normal.specs.NormalForm.{IsNormal};
+ghost use Rattle.logic_meaning.specs.Every.{Every};
+ghost use Rattle.logic_meaning.specs.Point.{Of};
+ghost use Rattle.normal_atoms.specs.Atoms.{context_of};
+ghost use Rattle.logic_meaning.specs.NormalForm.{IsNormal};
 ghost use Rattle.linear_forms.specs.Values.{point_of};
-ghost use Rattle.block_scheduler.specs.FromPlainEngine.{StopsWith};
+ghost use Rattle.reference_engine.specs.Told.{StopsWith};
 ghost use Rattle.formula_tree.specs.Makers.{Keeps};
 ghost use Rattle.formula_store.specs.Nodes.{tree, IsId};
-ghost use Rattle.sample_reference.specs.Sample.{reference_sample};
+ghost use Rattle.logic_meaning.specs.ReferenceSample.{reference_sample};
 ghost use Rattle.sample_reference.specs.TrueSample.{IsTrueSample};
 ghost use Rattle.sample_reference.specs.Seen.{sample_of};
 
-use atom_normal::Context;
-use block_scheduler::{Measured, unfolded_form};
 use exact_numbers::Fraction;
 use formula_store::{FormulaId, Store};
-use linear_forms::{Values, VarId};
+use linear_forms::Values;
+use logic_meaning::VarId;
+use normal_atoms::Context;
 use plain_samples::sample_at;
+use reference_engine::{Measured, unfolded_form};
 use std::alloc::Global;
 
 /// The reference sample of the formula at the point. `Nodes` comes exactly where it costs more than `limit` nodes, and `Overflow`

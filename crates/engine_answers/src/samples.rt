@@ -1,30 +1,32 @@
 //! The sample of a formula at a point, by cases.
 
 ghost use Rattle.std.specs.Prelude.{◌≡◌, ◌≤◌, ◌<ℤ◌, ℕ, pos, map, IfOk, IfErr, MatchOption};
-ghost use Rattle.formula_meaning.specs.Every.{Every};
-ghost use Rattle.formula_meaning.specs.Point.{Of};
-ghost use Rattle.formula_meaning.specs.Some.{Among};
-ghost use Rattle.atom_normal.specs.Atoms.{context_of};
-ghost use Rattle.atom_normal.specs.NormalForm.{IsNormal};
+ghost use Rattle.logic_meaning.specs.Every.{Every};
+ghost use Rattle.logic_meaning.specs.Point.{Of};
+ghost use Rattle.logic_meaning.specs.Some.{Among};
+ghost use Rattle.normal_atoms.specs.Atoms.{context_of};
+ghost use Rattle.logic_meaning.specs.NormalForm.{IsNormal};
 ghost use Rattle.linear_forms.specs.Values.{point_of, number_of};
-ghost use Rattle.block_scheduler.specs.FromPlainEngine.{StopsWith};
+ghost use Rattle.reference_engine.specs.Told.{StopsWith};
 ghost use Rattle.formula_tree.specs.Makers.{Keeps};
 ghost use Rattle.formula_store.specs.Nodes.{tree, IsId};
-ghost use Rattle.sample_reference.specs.Sample.{reference_sample};
+ghost use Rattle.logic_meaning.specs.ReferenceSample.{reference_sample};
 ghost use Rattle.sample_reference.specs.TrueSample.{IsTrueSample};
 ghost use Rattle.sample_reference.specs.Seen.{sample_of, values_of};
-ghost use Rattle.sample_reference.specs.Values.{value_names};
+ghost use Rattle.logic_meaning.specs.Values.{value_names};
 ghost use Rattle.engine_answers.specs.Samples.{AreInOrder, IsValueAmong};
 
 use crate::engine::Engine;
+use crate::error::SampleError;
 use crate::reference_samples::plain_sample;
+use crate::sampling::concrete;
 use crate::truths::true_case;
-use block_scheduler::Measured;
 use exact_numbers::Fraction;
 use formula_store::{EvalStop, FormulaId, Store};
-use linear_forms::{Values, VarId};
+use linear_forms::Values;
+use logic_meaning::VarId;
 use qe_parallel::Gate;
-use sample_answers::{SampleError, concrete};
+use reference_engine::Measured;
 use std::alloc::{AllocError, Global};
 use std::thread::Threads;
 

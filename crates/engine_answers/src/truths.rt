@@ -1,25 +1,26 @@
 //! The truth of a formula at a point, by cases.
 
 ghost use Rattle.std.specs.Prelude.{◌≡◌, ◌≤◌, ◌↔◌, ◌<ℤ◌, pos, false, true, IsTrue, IfOk, IfErr, MatchOption};
-ghost use Rattle.formula_meaning.specs.Every.{Every};
-ghost use Rattle.formula_meaning.specs.Point.{Of};
-ghost use Rattle.formula_meaning.specs.Some.{Among, EachOf};
-ghost use Rattle.formula_meaning.specs.Tree.{TrueAt};
-ghost use Rattle.atom_normal.specs.Atoms.{context_of};
-ghost use Rattle.atom_normal.specs.NormalForm.{IsNormal};
+ghost use Rattle.logic_meaning.specs.Every.{Every};
+ghost use Rattle.logic_meaning.specs.Point.{Of};
+ghost use Rattle.logic_meaning.specs.Some.{Among, EachOf};
+ghost use Rattle.logic_meaning.specs.Tree.{TrueAt};
+ghost use Rattle.normal_atoms.specs.Atoms.{context_of};
+ghost use Rattle.logic_meaning.specs.NormalForm.{IsNormal};
 ghost use Rattle.linear_forms.specs.Values.{point_of};
-ghost use Rattle.elimination_reference.specs.Sample.{reference_at};
-ghost use Rattle.block_scheduler.specs.FromPlainEngine.{StopsWith};
+ghost use Rattle.logic_meaning.specs.Sample.{reference_at};
+ghost use Rattle.reference_engine.specs.Told.{StopsWith};
 ghost use Rattle.formula_tree.specs.Makers.{Keeps};
 ghost use Rattle.formula_store.specs.Nodes.{tree, IsId};
 ghost use Rattle.formula_store.specs.Truths.{Tells};
 ghost use Rattle.engine_answers.specs.Truths.{CanBeTold};
 
+use crate::case_tree::Case;
 use crate::engine::Engine;
-use block_scheduler::{Case, Measured, truth_by_elimination};
 use formula_store::{EvalStop, FormulaId, Store};
 use linear_forms::Values;
 use qe_parallel::Gate;
+use reference_engine::{Measured, truth_by_elimination};
 use std::thread::Threads;
 
 impl<R: Threads + Sync, G: Gate + Sync> Engine<'_, R, G> {

@@ -2,12 +2,12 @@
 use Rattle.std.proofs.Common.{◌≡◌, ℕ, zero, suc, ◌<◌, ◌≤◌, ◌||◌, List, [], ◌∷◌, length, map, get_or, Option, Some, None, ap, ap₂, sym, ◌∙◌, refl, arith}
 use Rattle.std.specs.Prelude.{is_some, option_map, slice_get}
 use Rattle.std.specs.List.{AllByRecursion}
-use Rattle.formula_meaning.specs.Tree.{Tree}
-use Rattle.qe_syntax.specs.Holes.{inner_name}
-use Rattle.formula_tree.specs.Bindings.{bound_to}
+use Rattle.logic_meaning.specs.Tree.{Tree}
+use Rattle.language_meaning.specs.Holes.{inner_name}
+use Rattle.logic_meaning.specs.Bindings.{bound_to}
 use Rattle.formula_tree.specs.Makers.{Keeps}
-use Rattle.resolved_formulas.specs.Answers.{with_inner}
-use Rattle.resolved_formulas.proofs.AnswerNames.{beside_answers, answer_at}
+use Rattle.language_meaning.specs.Answers.{with_inner}
+use Rattle.written_atoms.proofs.FromResolvedFormulas.{beside_answers, answer_at}
 use Rattle.formula_resolving.specs.BoundIds.{AreIds, trees_bound, answered_trees}
 use Rattle.formula_resolving.specs.Numbering.{AreShort, some_bound}
 use Rattle.formula_resolving.proofs.AtomLaws.{bound_tree}

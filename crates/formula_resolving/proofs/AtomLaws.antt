@@ -1,27 +1,27 @@
 -- What is read of an atom.
 use Rattle.std.proofs.Common.{◌≡◌, inl, inr, ⊎_elim, ℕ, Bool, true, false, List, [], ◌∷◌, Option, Some, None, refl, subst, sym, ap, ◌∙◌}
 use Rattle.std.specs.Prelude.{◌↔◌, MatchOption, option_map, unwrap_or, if◌then◌else◌}
-use Rattle.formula_meaning.specs.Context.{Context, Fields, Integers}
-use Rattle.formula_meaning.specs.Formula.{Yes, No, One}
-use Rattle.formula_meaning.specs.Tree.{Tree}
-use Rattle.formula_meaning.specs.Sizes.{height}
-use Rattle.atom_normal.specs.declared.atoms.Normal.{Normal}
-use Rattle.atom_normal.specs.declared.atoms.Normal.TheVariants as normal
-use Rattle.atom_normal.specs.Atoms.{tree_of, IsWellFormedNormal}
-use Rattle.qe_syntax.specs.declared.tree.Relation.{Relation}
-use Rattle.qe_syntax.specs.Value.{same_name}
-use Rattle.qe_syntax.specs.Trees.{TermTree, WrittenAtom, Compare, Cong, Ncong, Bound}
+use Rattle.logic_meaning.specs.Context.{Context, Fields, Integers}
+use Rattle.logic_meaning.specs.Formula.{Yes, No, One}
+use Rattle.logic_meaning.specs.Tree.{Tree}
+use Rattle.logic_meaning.specs.Sizes.{height}
+use Rattle.normal_atoms.specs.declared.atoms.Normal.{Normal}
+use Rattle.normal_atoms.specs.declared.atoms.Normal.TheVariants as normal
+use Rattle.normal_atoms.specs.Atoms.{tree_of, IsWellFormedNormal}
+use Rattle.language_meaning.specs.declared.tree.Relation.{Relation}
+use Rattle.language_meaning.specs.Value.{same_name}
+use Rattle.language_meaning.specs.Trees.{TermTree, WrittenAtom, Compare, Cong, Ncong, Bound}
 use Rattle.written_atoms.specs.declared.read.ReadAtom.{ReadAtom}
 use Rattle.written_atoms.specs.Read.{IsRead, IsUnread, congruence_tree}
 use Rattle.formula_tree.specs.declared.shape.Shape.{Shape}
 use Rattle.formula_tree.specs.Shapes.{tree_over, IsProperShape}
-use Rattle.formula_tree.specs.Bindings.{bound_to}
+use Rattle.logic_meaning.specs.Bindings.{bound_to}
 use Rattle.formula_tree.specs.Makers.{IsMade}
-use Rattle.resolved_formulas.specs.Causes.{HasNoTree, IsCongruence, atom_in_place}
-use Rattle.resolved_formulas.specs.Resolving.{BoundTrees, resolved_atom}
-use Rattle.formula_tree.specs.Names.{place}
-use Rattle.formula_resolving.specs.declared.error.StaticError.{StaticError}
-use Rattle.formula_resolving.specs.declared.error.StaticError.TheVariants.{Unbound, FormulaAsTerm, Nonlinear, Division, CongruenceContext, Modulus, Depth, Overflow, Memory}
+use Rattle.language_meaning.specs.Causes.{HasNoTree, IsCongruence, atom_in_place}
+use Rattle.language_meaning.specs.Resolving.{BoundTrees, resolved_atom}
+use Rattle.logic_meaning.specs.Names.{place}
+use Rattle.language_meaning.specs.declared.static_error.StaticError.{StaticError}
+use Rattle.language_meaning.specs.declared.static_error.StaticError.TheVariants.{Unbound, FormulaAsTerm, Nonlinear, Division, CongruenceContext, Modulus, Depth, Overflow, Memory}
 use Rattle.formula_resolving.specs.declared.causes.Causes.{Causes}
 use Rattle.formula_resolving.specs.declared.parts.Part.{Part}
 use Rattle.formula_resolving.specs.BoundIds.{AreIds, trees_bound}

@@ -1,54 +1,21 @@
 -- Names in the holes of a formula, which are no variables of it.
 use Rattle.std.proofs.Common.{◌≡◌, ℕ, zero, suc, ◌+◌, ◌<◌, List, [], ◌∷◌, ◌++◌, map, refl, sym, ap, ap₂, ◌∙◌, subst, arith}
-use Rattle.formula_meaning.specs.Formula.{Formula, One}
-use Rattle.formula_meaning.specs.Formula as plain
-use Rattle.formula_meaning.specs.Replaced.{replaced, all_replaced}
-use Rattle.formula_meaning.specs.Sizes.{nodes, all_nodes}
-use Rattle.qe_syntax.specs.declared.tree.Formula as written
-use Rattle.qe_syntax.specs.declared.tree.Formula.TheVariants as formula
-use Rattle.qe_syntax.specs.declared.tree.Formula.TheOpen as layer
-use Rattle.qe_syntax.specs.declared.tree.Formulas as writtens
-use Rattle.qe_syntax.specs.declared.tree.InnerCommand as commands
-use Rattle.qe_syntax.specs.Trees.{TermTree, TermTrees, Number, Named, Sum, Product, Quotient, Power, Negative, none, also, WrittenAtom, Compare, Cong, Ncong, Bound, FormulaTree, FormulaTrees, formulas_of}
-use Rattle.qe_syntax.specs.Holes.{Holed, hole, command_count, all_of}
-use Rattle.qe_syntax.specs.CodeTrees.{whole_formula, formula_tree, formula_trees, named_tree, named_trees, inner_of}
-use Rattle.qe_syntax.specs.Proper.{IsTermOver, AreTermsOver, IsFormulaOver, AreFormulasOver, AreFormulas, IsAnyName, IsProperTerm, AreProperTerms, IsProperFormula, AreProperFormulas}
-use Rattle.qe_syntax.specs.Valued.{prefix_of, IsUnquantified}
-use Rattle.resolved_formulas.specs.Resolving.{formula_variables, all_variables}
-use Rattle.qe_syntax.proofs.TreeEquations.{
-  formula-True,
-  formula-False,
-  formula-Compare,
-  formula-Cong,
-  formula-Ncong,
-  formula-Not,
-  formula-And,
-  formula-Or,
-  formula-Impl,
-  formula-Repl,
-  formula-Equiv,
-  formula-Ex,
-  formula-All,
-  formula-Named,
-  formula-Computed,
-  formulas-out,
-  named-True,
-  named-False,
-  named-Compare,
-  named-Cong,
-  named-Ncong,
-  named-Not,
-  named-And,
-  named-Or,
-  named-Impl,
-  named-Repl,
-  named-Equiv,
-  named-Ex,
-  named-All,
-  named-Named,
-  named-Computed,
-  wholes-out,
-}
+use Rattle.logic_meaning.specs.Formula.{Formula, One}
+use Rattle.logic_meaning.specs.Formula as plain
+use Rattle.logic_meaning.specs.Replaced.{replaced, all_replaced}
+use Rattle.logic_meaning.specs.Sizes.{nodes, all_nodes}
+use Rattle.written_syntax.specs.declared.tree.Formula as written
+use Rattle.written_syntax.specs.declared.tree.Formula.TheVariants as formula
+use Rattle.written_syntax.specs.declared.tree.Formula.TheOpen as layer
+use Rattle.written_syntax.specs.declared.tree.Formulas as writtens
+use Rattle.written_syntax.specs.declared.tree.InnerCommand as commands
+use Rattle.language_meaning.specs.Trees.{TermTree, TermTrees, Number, Named, Sum, Product, Quotient, Power, Negative, none, also, WrittenAtom, Compare, Cong, Ncong, Bound, FormulaTree, FormulaTrees, formulas_of}
+use Rattle.language_meaning.specs.Holes.{Holed, hole, command_count, all_of}
+use Rattle.written_syntax.specs.CodeTrees.{whole_formula, formula_tree, formula_trees, named_tree, named_trees, inner_of}
+use Rattle.written_syntax.specs.Proper.{IsTermOver, AreTermsOver, IsFormulaOver, AreFormulasOver, AreFormulas, IsAnyName, IsProperTerm, AreProperTerms, IsProperFormula, AreProperFormulas}
+use Rattle.written_syntax.specs.Valued.{prefix_of, IsUnquantified}
+use Rattle.language_meaning.specs.Resolving.{formula_variables, all_variables}
+use Rattle.written_syntax.proofs.TreeEquations.{formula-True, formula-False, formula-Compare, formula-Cong, formula-Ncong, formula-Not, formula-And, formula-Or, formula-Impl, formula-Repl, formula-Equiv, formula-Ex, formula-All, formula-Named, formula-Computed, formulas-out, named-True, named-False, named-Compare, named-Cong, named-Ncong, named-Not, named-And, named-Or, named-Impl, named-Repl, named-Equiv, named-Ex, named-All, named-Named, named-Computed, wholes-out}
 
 -- a hole where a name stands as a formula
 abbrev holed_atom : WrittenAtom → FormulaTree

@@ -8,6 +8,10 @@ pub mod AtomLaws
 pub mod NamedTrees
 pub mod HoleNames
 pub mod WrittenParts
-pub mod Order
+pub mod OrderFacts
 pub mod Refusing
 pub mod Answered
+pub mod Sizes
+pub mod Gathering
+pub mod Texts
+pub mod Inside

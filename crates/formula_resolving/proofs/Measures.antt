@@ -1,17 +1,17 @@
 -- How many nodes a term or a formula has, and how high a list is; a member has no more than its list.
 use Rattle.std.proofs.Common.{◌≡◌, ℕ, zero, suc, ◌+◌, ◌<◌, ◌≤◌, List, [], ◌∷◌, get_or, length, arith, ap, ◌∙◌, ◌++◌, take, max}
 use Rattle.std.specs.Prelude.{map}
-use Rattle.formula_meaning.specs.Sizes.{nodes, all_nodes, height, greatest_height}
-use Rattle.formula_meaning.specs.Tree as meaning
+use Rattle.logic_meaning.specs.Sizes.{nodes, all_nodes, height, greatest_height}
+use Rattle.logic_meaning.specs.Tree as meaning
 use Rattle.formula_tree.specs.declared.tree.Tree as tree
 use Rattle.formula_tree.specs.Trees.{tree_of, members}
 use Rattle.std.proofs.lemmas.List.{map-append, take_more}
-use Rattle.formula_meaning.specs.Formula.{Yes, No, One, Not, And, Or, Impl, Repl, Equiv, Ex, All}
-use Rattle.qe_syntax.specs.declared.tree.Term as code
-use Rattle.qe_syntax.specs.declared.tree.Formula as written
-use Rattle.qe_syntax.specs.Trees.{TermTree, TermTrees, Number, Named, Sum, Product, Quotient, Power, Negative, none, also, terms_of, formulas_of, FormulaTree}
-use Rattle.qe_syntax.specs.CodeTrees.{term_tree, formula_tree}
-use Rattle.qe_syntax.specs.Valued.{matrix_of}
+use Rattle.logic_meaning.specs.Formula.{Yes, No, One, Not, And, Or, Impl, Repl, Equiv, Ex, All}
+use Rattle.written_syntax.specs.declared.tree.Term as code
+use Rattle.written_syntax.specs.declared.tree.Formula as written
+use Rattle.language_meaning.specs.Trees.{TermTree, TermTrees, Number, Named, Sum, Product, Quotient, Power, Negative, none, also, terms_of, formulas_of, FormulaTree}
+use Rattle.written_syntax.specs.CodeTrees.{term_tree, formula_tree}
+use Rattle.written_syntax.specs.Valued.{matrix_of}
 
 abbrev mutual
   pub term_nodes : TermTree → ℕ

@@ -1,11 +1,11 @@
 -- The trees of a list of formulas with names in their holes, member by member.
 use Rattle.std.proofs.Common.{◌≡◌, ℕ, zero, suc, ◌+◌, ◌<◌, ◌≤◌, List, [], ◌∷◌, ◌++◌, map, take, get_or, length, arith, ap, sym, ◌∙◌, refl}
 use Rattle.std.proofs.lemmas.List.{take_more}
-use Rattle.formula_meaning.specs.Formula as plain
-use Rattle.qe_syntax.specs.declared.tree.Formula as written
-use Rattle.qe_syntax.specs.Trees.{FormulaTree, formulas_of}
-use Rattle.qe_syntax.specs.Holes.{Nests, alone, beside, together, command_count, all_of}
-use Rattle.qe_syntax.specs.CodeTrees.{whole_formula, formula_tree, named_tree, inner_of}
+use Rattle.logic_meaning.specs.Formula as plain
+use Rattle.written_syntax.specs.declared.tree.Formula as written
+use Rattle.language_meaning.specs.Trees.{FormulaTree, formulas_of}
+use Rattle.language_meaning.specs.Holes.{Nests, alone, beside, together, command_count, all_of}
+use Rattle.written_syntax.specs.CodeTrees.{whole_formula, formula_tree, named_tree, inner_of}
 
 -- the names of each member begin after those of the ones before it
 abbrev pub named_each : ℕ → List written.Formula → List FormulaTree

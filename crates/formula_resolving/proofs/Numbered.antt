@@ -4,9 +4,9 @@ use Rattle.std.specs.Prelude.{if◌then◌else◌, is_some}
 use Rattle.std.specs.List.{fold, list_any}
 use Rattle.std.proofs.lemmas.List.Sums.{fold-append}
 use Rattle.std.proofs.lemmas.List.Folds.{list_any-append}
-use Rattle.qe_syntax.specs.Value.{same_name}
-use Rattle.formula_tree.specs.Bindings.{bound_to}
-use Rattle.formula_tree.specs.Names.{with_name}
+use Rattle.language_meaning.specs.Value.{same_name}
+use Rattle.logic_meaning.specs.Bindings.{bound_to}
+use Rattle.logic_meaning.specs.Names.{with_name}
 use Rattle.formula_resolving.specs.Numbering.{Grows, IsNumbered, AreShort, some_bound}
 
 pub grows_same : (names : List (List ℕ)) → Grows names names

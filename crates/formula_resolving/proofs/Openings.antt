@@ -2,16 +2,16 @@
 use Rattle.std.proofs.Common.{◌≡◌, ℕ, List, [], ◌∷◌, ◌++◌, ap, sym, ◌∙◌, refl}
 use Rattle.std.specs.declared.boxed.Box.{Box}
 use Rattle.std.specs.declared.alloc.Global.{Global}
-use Rattle.linear_forms.specs.declared.form.VarId.{VarId}
-use Rattle.qe_syntax.specs.declared.tree.Formula as written
-use Rattle.qe_syntax.specs.declared.tree.Formula.TheVariants as formula
-use Rattle.qe_syntax.specs.Trees.{FormulaTree}
-use Rattle.qe_syntax.specs.CodeTrees.{formula_tree, named_tree, inner_of}
-use Rattle.qe_syntax.specs.Valued.{matrix_of}
-use Rattle.qe_syntax.proofs.TreeEquations.{formula-Ex, formula-All, inner-Ex, inner-All, named-Ex, named-All}
-use Rattle.formula_tree.specs.Names.{place}
-use Rattle.formula_meaning.specs.declared.quantifier.Quantifier.TheVariants.{Exists, ForAll}
-use Rattle.formula_meaning.specs.Shape.{quantified}
+use Rattle.logic_meaning.specs.declared.form.VarId.{VarId}
+use Rattle.written_syntax.specs.declared.tree.Formula as written
+use Rattle.written_syntax.specs.declared.tree.Formula.TheVariants as formula
+use Rattle.language_meaning.specs.Trees.{FormulaTree}
+use Rattle.written_syntax.specs.CodeTrees.{formula_tree, named_tree, inner_of}
+use Rattle.written_syntax.specs.Valued.{matrix_of}
+use Rattle.written_syntax.proofs.TreeEquations.{formula-Ex, formula-All, inner-Ex, inner-All, named-Ex, named-All}
+use Rattle.logic_meaning.specs.Names.{place}
+use Rattle.logic_meaning.specs.declared.quantifier.Quantifier.TheVariants.{Exists, ForAll}
+use Rattle.logic_meaning.specs.Shape.{quantified}
 use Rattle.formula_resolving.specs.declared.parts.Opening.{Opening}
 use Rattle.formula_resolving.specs.Connectives.{Opens}
 

@@ -4,31 +4,31 @@ use Rattle.std.specs.Prelude.{◌↔◌, Result, Ok, Err, IfOk, OnOk}
 use Rattle.std.specs.List.{AllByRecursion}
 use Rattle.std.proofs.lemmas.List.{map-append}
 use Rattle.std.specs.Option.{option_to_list}
-use Rattle.formula_meaning.specs.Context.{Context}
-use Rattle.formula_meaning.specs.Formula.{Yes, No, Not, And, Or, Impl, Repl, Equiv, Ex, All, also}
-use Rattle.formula_meaning.specs.Tree.{Tree}
-use Rattle.formula_meaning.specs.Replaced.{all_replaced}
-use Rattle.formula_meaning.specs.Sizes.{greatest_height}
-use Rattle.qe_syntax.specs.Trees.{WrittenAtom, FormulaTree, formulas_of}
+use Rattle.logic_meaning.specs.Context.{Context}
+use Rattle.logic_meaning.specs.Formula.{Yes, No, Not, And, Or, Impl, Repl, Equiv, Ex, All, also}
+use Rattle.logic_meaning.specs.Tree.{Tree}
+use Rattle.logic_meaning.specs.Replaced.{all_replaced}
+use Rattle.logic_meaning.specs.Sizes.{greatest_height}
+use Rattle.language_meaning.specs.Trees.{WrittenAtom, FormulaTree, formulas_of}
 use Rattle.formula_tree.specs.declared.shape.Shape.{Shape}
 use Rattle.formula_tree.specs.declared.shape.Shape.TheVariants as shape
 use Rattle.formula_tree.specs.Trees.{members}
 use Rattle.formula_tree.specs.Shapes.{tree_over}
 use Rattle.formula_tree.specs.Makers.{IsMade, Keeps}
-use Rattle.resolved_formulas.specs.Somewhere.{SomewhereIn, SomeAtom}
-use Rattle.resolved_formulas.specs.Causes.{most_height, height_in_place, atom_in_place}
-use Rattle.resolved_formulas.specs.Resolving.{BoundTrees, resolve, resolved_atom}
-use Rattle.formula_tree.specs.Names.{place}
-use Rattle.formula_resolving.specs.declared.error.StaticError.{StaticError}
+use Rattle.language_meaning.specs.Somewhere.{SomewhereIn, SomeAtom}
+use Rattle.language_meaning.specs.Causes.{most_height, height_in_place, atom_in_place}
+use Rattle.language_meaning.specs.Resolving.{BoundTrees, resolve, resolved_atom}
+use Rattle.logic_meaning.specs.Names.{place}
+use Rattle.language_meaning.specs.declared.static_error.StaticError.{StaticError}
 use Rattle.formula_resolving.specs.declared.causes.Causes.{Causes}
 use Rattle.formula_resolving.specs.declared.parts.Part.{Part}
 use Rattle.formula_resolving.specs.declared.parts.Members.{Members}
-use Rattle.formula_meaning.specs.declared.junction.Junction.{Junction}
-use Rattle.formula_meaning.specs.declared.junction.Junction.TheVariants.{Conjunction, Disjunction}
-use Rattle.formula_meaning.specs.declared.quantifier.Quantifier.{Quantifier}
-use Rattle.formula_meaning.specs.declared.quantifier.Quantifier.TheVariants.{Exists, ForAll}
-use Rattle.formula_meaning.specs.Fold.{joined}
-use Rattle.formula_meaning.specs.Shape.{quantified}
+use Rattle.logic_meaning.specs.declared.junction.Junction.{Junction}
+use Rattle.logic_meaning.specs.declared.junction.Junction.TheVariants.{Conjunction, Disjunction}
+use Rattle.logic_meaning.specs.declared.quantifier.Quantifier.{Quantifier}
+use Rattle.logic_meaning.specs.declared.quantifier.Quantifier.TheVariants.{Exists, ForAll}
+use Rattle.logic_meaning.specs.Fold.{joined}
+use Rattle.logic_meaning.specs.Shape.{quantified}
 use Rattle.formula_resolving.specs.declared.parts.Pair.{Pair}
 use Rattle.formula_resolving.specs.declared.parts.Pair.TheVariants as pair
 use Rattle.formula_resolving.specs.declared.parts.Opening.{Opening}

@@ -3,31 +3,31 @@ use Rattle.std.proofs.Common.{◌≡◌, ◌⊎◌, inl, inr, ⊎_elim, ℕ, ◌
 use Rattle.std.specs.Prelude.{◌↔◌, is_some, nat_lt}
 use Rattle.std.specs.List.{list_any}
 use Rattle.std.proofs.lemmas.List.Folds.{list_any-append}
-use Rattle.formula_meaning.specs.Context.{Context, Fields, Integers}
-use Rattle.formula_meaning.specs.Formula.{Formula, Formulas, Yes, No, One, Not, And, Or, Impl, Repl, Equiv, Ex, All, none, also}
-use Rattle.formula_meaning.specs.Some.{EachOf}
-use Rattle.formula_meaning.specs.Tree.{Tree}
-use Rattle.qe_syntax.specs.Trees as term
-use Rattle.qe_syntax.specs.Trees.{TermTree, TermTrees, Number, Named, Sum, Product, Quotient, Power, Negative, WrittenAtom, Compare, Cong, Ncong, Bound, FormulaTree, FormulaTrees}
-use Rattle.qe_syntax.specs.Value.{HasName, HaveName, Mentions}
-use Rattle.formula_tree.specs.Bindings.{bound_to}
-use Rattle.resolved_formulas.specs.Somewhere.{Somewhere, SomewhereIn, SomeAtom}
-use Rattle.resolved_formulas.specs.Causes as cause
-use Rattle.resolved_formulas.specs.Causes.{most_height, height_in_place, IsBound, SomeTerm, HasPast, PassesInReading}
-use Rattle.resolved_formulas.specs.Accepted.{IsAccepted}
-use Rattle.resolved_formulas.specs.Resolving.{BoundTrees, variables_of, variables_in, atom_variables, formula_variables, all_variables}
-use Rattle.formula_tree.specs.Names.{place}
-use Rattle.resolved_formulas.specs.NamesAfter.{names_after}
-use Rattle.formula_resolving.specs.declared.error.StaticError.{StaticError}
-use Rattle.formula_resolving.specs.declared.error.StaticError.TheVariants.{Unbound, FormulaAsTerm, Nonlinear, Division, CongruenceContext, Modulus, Depth, Overflow, Memory}
+use Rattle.logic_meaning.specs.Context.{Context, Fields, Integers}
+use Rattle.logic_meaning.specs.Formula.{Formula, Formulas, Yes, No, One, Not, And, Or, Impl, Repl, Equiv, Ex, All, none, also}
+use Rattle.logic_meaning.specs.Some.{EachOf}
+use Rattle.logic_meaning.specs.Tree.{Tree}
+use Rattle.language_meaning.specs.Trees as term
+use Rattle.language_meaning.specs.Trees.{TermTree, TermTrees, Number, Named, Sum, Product, Quotient, Power, Negative, WrittenAtom, Compare, Cong, Ncong, Bound, FormulaTree, FormulaTrees}
+use Rattle.language_meaning.specs.Value.{HasName, HaveName, Mentions}
+use Rattle.logic_meaning.specs.Bindings.{bound_to}
+use Rattle.language_meaning.specs.Somewhere.{Somewhere, SomewhereIn, SomeAtom}
+use Rattle.language_meaning.specs.Causes as cause
+use Rattle.language_meaning.specs.Causes.{most_height, height_in_place, IsBound, SomeTerm, HasPast, PassesInReading}
+use Rattle.written_atoms.specs.FromResolvedFormulas.{IsAccepted}
+use Rattle.language_meaning.specs.Resolving.{BoundTrees, variables_of, variables_in, atom_variables, formula_variables, all_variables}
+use Rattle.logic_meaning.specs.Names.{place}
+use Rattle.language_meaning.specs.NamesAfter.{names_after}
+use Rattle.language_meaning.specs.declared.static_error.StaticError.{StaticError}
+use Rattle.language_meaning.specs.declared.static_error.StaticError.TheVariants.{Unbound, FormulaAsTerm, Nonlinear, Division, CongruenceContext, Modulus, Depth, Overflow, Memory}
 use Rattle.formula_resolving.specs.declared.causes.Causes.{Causes}
-use Rattle.formula_resolving.specs.Refusals.{before, Applies, IsFirst}
+use Rattle.language_meaning.specs.Refusals.{before, Applies, IsFirst}
 use Rattle.formula_resolving.specs.FirstCause.{IsFirstCause}
 use Rattle.formula_resolving.specs.Numbering.{some_bound}
 use Rattle.formula_resolving.specs.MetCauses.{is_met, IsFirstOf, CongruenceIn}
 use Rattle.formula_resolving.specs.Heights.{told}
 use Rattle.formula_resolving.specs.Parts.{AreTold}
-use Rattle.formula_resolving.proofs.Order.{no_memory}
+use Rattle.formula_resolving.proofs.OrderFacts.{no_memory}
 use Rattle.formula_resolving.proofs.FirstCause.{or_true}
 
 -- ---- bound names as variables

@@ -2,19 +2,19 @@
 use Rattle.std.proofs.Common.{◌≡◌, ◌⊎◌, inl, inr, ⊎_elim, map, ℕ, suc, List, [], ◌∷◌, ◌++◌, ap, ap₂, sym, ◌∙◌}
 use Rattle.std.specs.declared.boxed.Box.{Box}
 use Rattle.std.specs.declared.alloc.Global.{Global}
-use Rattle.formula_meaning.specs.Sizes.{nodes, all_nodes}
-use Rattle.formula_meaning.specs.Formula.{And, Or}
-use Rattle.qe_syntax.specs.declared.tree.Relation.{Relation}
-use Rattle.qe_syntax.specs.declared.tree.Term as code
-use Rattle.qe_syntax.specs.declared.tree.Term.TheVariants as term
-use Rattle.qe_syntax.specs.declared.tree.Formula as written
-use Rattle.qe_syntax.specs.declared.tree.Formula.TheVariants as formula
-use Rattle.qe_syntax.specs.declared.tree.Formulas as writtens
-use Rattle.qe_syntax.specs.Trees.{formulas_of}
-use Rattle.qe_syntax.specs.Holes.{all_of}
-use Rattle.qe_syntax.specs.CodeTrees.{term_tree, whole_formula, whole_formulas, formula_tree}
-use Rattle.qe_syntax.proofs.TreeEquations.{tree-Quotient, formula-Compare, formula-Cong, formula-Ncong, formula-Impl, formula-Repl, formula-Equiv, formula-Ex, formula-All}
-use Rattle.resolved_formulas.specs.Resolving.{variables_of, formula_variables, all_variables}
+use Rattle.logic_meaning.specs.Sizes.{nodes, all_nodes}
+use Rattle.logic_meaning.specs.Formula.{And, Or}
+use Rattle.language_meaning.specs.declared.tree.Relation.{Relation}
+use Rattle.written_syntax.specs.declared.tree.Term as code
+use Rattle.written_syntax.specs.declared.tree.Term.TheVariants as term
+use Rattle.written_syntax.specs.declared.tree.Formula as written
+use Rattle.written_syntax.specs.declared.tree.Formula.TheVariants as formula
+use Rattle.written_syntax.specs.declared.tree.Formulas as writtens
+use Rattle.language_meaning.specs.Trees.{formulas_of}
+use Rattle.language_meaning.specs.Holes.{all_of}
+use Rattle.written_syntax.specs.CodeTrees.{term_tree, whole_formula, whole_formulas, formula_tree}
+use Rattle.written_syntax.proofs.TreeEquations.{tree-Quotient, formula-Compare, formula-Cong, formula-Ncong, formula-Impl, formula-Repl, formula-Equiv, formula-Ex, formula-All}
+use Rattle.language_meaning.specs.Resolving.{variables_of, formula_variables, all_variables}
 use Rattle.formula_resolving.proofs.WrittenParts.{conjunction_is, disjunction_is}
 
 pub quotient_variables : (f : code.Term) (a b : Box code.Term Global) (x y : code.Term) → f ≡ term.Quotient a b → x ≡ a.value → y ≡ b.value → variables_of (term_tree f) ≡ variables_of (term_tree x) ++ variables_of (term_tree y)

@@ -2,24 +2,24 @@
 use Rattle.std.proofs.Common.{◌≡◌, ℕ, List, [], ◌∷◌, ◌+◌, map, get_or, length, ◌<◌, suc, zero, arith, ap, ap₂, sym, ◌∙◌, subst, true, false}
 use Rattle.std.specs.declared.boxed.Box.{Box}
 use Rattle.std.specs.declared.alloc.Global.{Global}
-use Rattle.formula_meaning.specs.Formula.{Yes, No, One, Not, Ex, All}
-use Rattle.formula_meaning.specs.Formula as plain
-use Rattle.qe_syntax.specs.declared.tree.Relation.{Relation}
-use Rattle.qe_syntax.specs.declared.tree.Term as code
-use Rattle.qe_syntax.specs.declared.tree.Formula as written
-use Rattle.qe_syntax.specs.declared.tree.Formula.TheVariants as formula
-use Rattle.qe_syntax.specs.declared.tree.Formulas as writtens
-use Rattle.qe_syntax.specs.declared.tree.InnerCommand as commands
-use Rattle.qe_syntax.specs.Trees.{FormulaTree, FormulaTrees, Compare, Cong, Ncong, Bound, formulas_of}
-use Rattle.qe_syntax.specs.Holes.{Holed, hole, inner_name, command_count, all_of}
-use Rattle.qe_syntax.specs.CodeTrees.{term_tree, whole_formula, whole_formulas, formula_tree, formula_trees, inner_of, inners_of, named_tree, named_trees}
-use Rattle.qe_syntax.specs.Valued.{matrix_of}
-use Rattle.qe_syntax.specs.Proper.{IsProperFormula, AreProperFormulas}
-use Rattle.qe_syntax.proofs.TreeEquations.{formula-True, formula-False, formula-Compare, formula-Cong, formula-Ncong, formula-Not, formula-And, formula-Or, formula-Impl, formula-Repl, formula-Equiv, formula-Named, formula-Computed, inner-True, inner-False, inner-Compare, inner-Cong, inner-Ncong, inner-Not, inner-And, inner-Or, inner-Impl, inner-Repl, inner-Equiv, inner-Named, inner-Computed, named-True, named-False, named-Compare, named-Cong, named-Ncong, named-Not, named-And, named-Or, named-Impl, named-Repl, named-Equiv, named-Named, named-Computed}
+use Rattle.logic_meaning.specs.Formula.{Yes, No, One, Not, Ex, All}
+use Rattle.logic_meaning.specs.Formula as plain
+use Rattle.language_meaning.specs.declared.tree.Relation.{Relation}
+use Rattle.written_syntax.specs.declared.tree.Term as code
+use Rattle.written_syntax.specs.declared.tree.Formula as written
+use Rattle.written_syntax.specs.declared.tree.Formula.TheVariants as formula
+use Rattle.written_syntax.specs.declared.tree.Formulas as writtens
+use Rattle.written_syntax.specs.declared.tree.InnerCommand as commands
+use Rattle.language_meaning.specs.Trees.{FormulaTree, FormulaTrees, Compare, Cong, Ncong, Bound, formulas_of}
+use Rattle.language_meaning.specs.Holes.{Holed, hole, inner_name, command_count, all_of}
+use Rattle.written_syntax.specs.CodeTrees.{term_tree, whole_formula, whole_formulas, formula_tree, formula_trees, inner_of, inners_of, named_tree, named_trees}
+use Rattle.written_syntax.specs.Valued.{matrix_of}
+use Rattle.written_syntax.specs.Proper.{IsProperFormula, AreProperFormulas}
+use Rattle.written_syntax.proofs.TreeEquations.{formula-True, formula-False, formula-Compare, formula-Cong, formula-Ncong, formula-Not, formula-And, formula-Or, formula-Impl, formula-Repl, formula-Equiv, formula-Named, formula-Computed, inner-True, inner-False, inner-Compare, inner-Cong, inner-Ncong, inner-Not, inner-And, inner-Or, inner-Impl, inner-Repl, inner-Equiv, inner-Named, inner-Computed, named-True, named-False, named-Compare, named-Cong, named-Ncong, named-Not, named-And, named-Or, named-Impl, named-Repl, named-Equiv, named-Named, named-Computed}
 use Rattle.formula_resolving.proofs.NamedTrees.{all_trees, count_together}
 use Rattle.written_atoms.specs.Read.{congruence_tree}
-use Rattle.formula_meaning.specs.declared.junction.Junction.TheVariants.{Conjunction, Disjunction}
-use Rattle.formula_meaning.specs.Fold.{joined}
+use Rattle.logic_meaning.specs.declared.junction.Junction.TheVariants.{Conjunction, Disjunction}
+use Rattle.logic_meaning.specs.Fold.{joined}
 use Rattle.formula_resolving.specs.declared.parts.Pair.{Pair}
 use Rattle.formula_resolving.specs.declared.parts.Pair.TheVariants as pair
 use Rattle.formula_resolving.specs.Connectives.{paired}

@@ -1,9 +1,9 @@
 -- What is bound as ids, the ids of the answers of commands, and the trees that these ids stand for.
 use Rattle.std.specs.Prelude.{ℕ, List, map}
 use Rattle.std.specs.List.{AllByRecursion}
-use Rattle.formula_meaning.specs.Tree.{Tree}
-use Rattle.resolved_formulas.specs.Resolving.{BoundTrees}
-use Rattle.resolved_formulas.specs.Answers.{with_inner}
+use Rattle.logic_meaning.specs.Tree.{Tree}
+use Rattle.language_meaning.specs.Resolving.{BoundTrees}
+use Rattle.language_meaning.specs.Answers.{with_inner}
 
 -- what is bound are ids
 abbrev pub AreIds : {Id : Type 0} → (Id → Type 0) → List (List ℕ × Id) → Type 0

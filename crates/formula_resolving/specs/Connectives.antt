@@ -1,18 +1,18 @@
 -- The connectives and quantifiers of a formula, as shapes over ids and as formulas.
 use Rattle.std.specs.Prelude.{◌≡◌, ℕ, List, ◌∷◌, [], Option, Some, None}
-use Rattle.formula_meaning.specs.declared.junction.Junction.{Junction}
-use Rattle.formula_meaning.specs.declared.junction.Junction.TheVariants.{Conjunction, Disjunction}
-use Rattle.formula_meaning.specs.declared.quantifier.Quantifier.{Quantifier}
-use Rattle.formula_meaning.specs.declared.quantifier.Quantifier.TheVariants.{Exists, ForAll}
-use Rattle.formula_meaning.specs.Formula.{Formula, Impl, Repl, Equiv}
-use Rattle.formula_meaning.specs.Shape.{quantified}
-use Rattle.qe_syntax.specs.Trees.{FormulaTree}
-use Rattle.linear_forms.specs.declared.form.VarId.{VarId}
-use Rattle.atom_normal.specs.declared.atoms.Normal.{Normal}
-use Rattle.atom_normal.specs.declared.atoms.Normal.TheVariants as normal
+use Rattle.logic_meaning.specs.declared.junction.Junction.{Junction}
+use Rattle.logic_meaning.specs.declared.junction.Junction.TheVariants.{Conjunction, Disjunction}
+use Rattle.logic_meaning.specs.declared.quantifier.Quantifier.{Quantifier}
+use Rattle.logic_meaning.specs.declared.quantifier.Quantifier.TheVariants.{Exists, ForAll}
+use Rattle.logic_meaning.specs.Formula.{Formula, Impl, Repl, Equiv}
+use Rattle.logic_meaning.specs.Shape.{quantified}
+use Rattle.language_meaning.specs.Trees.{FormulaTree}
+use Rattle.logic_meaning.specs.declared.form.VarId.{VarId}
+use Rattle.normal_atoms.specs.declared.atoms.Normal.{Normal}
+use Rattle.normal_atoms.specs.declared.atoms.Normal.TheVariants as normal
 use Rattle.formula_tree.specs.declared.shape.Shape.{Shape}
 use Rattle.formula_tree.specs.declared.shape.Shape.TheVariants as shape
-use Rattle.formula_tree.specs.Names.{place}
+use Rattle.logic_meaning.specs.Names.{place}
 use Rattle.formula_resolving.specs.declared.parts.Pair.{Pair}
 use Rattle.formula_resolving.specs.declared.parts.Pair.TheVariants as pair
 use Rattle.formula_resolving.specs.declared.parts.Opening.{Opening}

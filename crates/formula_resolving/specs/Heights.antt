@@ -1,6 +1,6 @@
 -- Heights, which are not told above the limit.
 use Rattle.std.specs.Prelude.{ℕ, ◌+◌, min}
-use Rattle.resolved_formulas.specs.Causes.{most_height}
+use Rattle.language_meaning.specs.Causes.{most_height}
 
 -- the height, or one more than the limit where it is above that
 abbrev pub told : ℕ → ℕ

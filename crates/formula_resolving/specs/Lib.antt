@@ -1,4 +1,3 @@
-pub mod Refusals
 pub mod FirstCause
 pub mod BoundIds
 pub mod Numbering
@@ -7,3 +6,5 @@ pub mod Heights
 pub mod Connectives
 pub mod Parts
 pub mod Plain
+pub mod Order
+pub mod Text

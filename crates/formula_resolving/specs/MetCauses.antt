@@ -1,15 +1,15 @@
 -- Which causes of a refusal were met, and the first of them.
 use Rattle.std.specs.Prelude.{◌≡◌, ◌⊎◌, ℕ, ◌<◌, List, Bool, true, false, ◌||◌, nat_lt, Option, MatchOption}
-use Rattle.formula_meaning.specs.Context.{Context, Fields, Integers}
-use Rattle.formula_meaning.specs.Some.{EachOf}
-use Rattle.qe_syntax.specs.Trees.{WrittenAtom}
+use Rattle.logic_meaning.specs.Context.{Context, Fields, Integers}
+use Rattle.logic_meaning.specs.Some.{EachOf}
+use Rattle.language_meaning.specs.Trees.{WrittenAtom}
 use Rattle.written_atoms.specs.declared.read.AtomCauses.{AtomCauses}
-use Rattle.resolved_formulas.specs.Causes.{HasNoTree, SomeTerm, HasNonlinear, HasForbidden, IsCongruence, HasBadModulus, HasPast, PassesInReading, most_height}
-use Rattle.resolved_formulas.specs.Resolving.{BoundTrees}
-use Rattle.formula_resolving.specs.declared.error.StaticError.{StaticError}
-use Rattle.formula_resolving.specs.declared.error.StaticError.TheVariants.{Unbound, FormulaAsTerm, Nonlinear, Division, CongruenceContext, Modulus, Depth, Overflow, Memory}
+use Rattle.language_meaning.specs.Causes.{HasNoTree, SomeTerm, HasNonlinear, HasForbidden, IsCongruence, HasBadModulus, HasPast, PassesInReading, most_height}
+use Rattle.language_meaning.specs.Resolving.{BoundTrees}
+use Rattle.language_meaning.specs.declared.static_error.StaticError.{StaticError}
+use Rattle.language_meaning.specs.declared.static_error.StaticError.TheVariants.{Unbound, FormulaAsTerm, Nonlinear, Division, CongruenceContext, Modulus, Depth, Overflow, Memory}
 use Rattle.formula_resolving.specs.declared.causes.Causes.{Causes}
-use Rattle.formula_resolving.specs.Refusals.{before}
+use Rattle.language_meaning.specs.Refusals.{before}
 
 -- whether the cause was met; the other causes are looked for elsewhere
 abbrev pub flag : Causes → StaticError → Bool

@@ -1,8 +1,8 @@
 -- Variables that get their numbers one after another.
 use Rattle.std.specs.Prelude.{◌≡◌, ◌≤◌, ℕ, List, ◌++◌, length, Bool, is_some}
 use Rattle.std.specs.List.{AllByRecursion, fold, list_any}
-use Rattle.formula_tree.specs.Bindings.{bound_to}
-use Rattle.formula_tree.specs.Names.{with_name}
+use Rattle.logic_meaning.specs.Bindings.{bound_to}
+use Rattle.logic_meaning.specs.Names.{with_name}
 
 -- the new names are the old ones with more at the end
 pub record Grows (old new : List (List ℕ)) : Type 0 where

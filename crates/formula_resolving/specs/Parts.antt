@@ -1,21 +1,21 @@
 -- What is known of a part of a written formula once it is read: the causes in it, its height, and its resolved formula.
 use Rattle.std.specs.Prelude.{◌≡◌, ◌↔◌, ◌⊎◌, ℕ, List, [], map, true, Option, Some, None}
 use Rattle.std.specs.List.{AllByRecursion}
-use Rattle.formula_meaning.specs.Context.{Context}
-use Rattle.formula_meaning.specs.Formula.{One}
-use Rattle.formula_meaning.specs.Tree.{Tree}
-use Rattle.formula_meaning.specs.Replaced.{all_replaced}
-use Rattle.formula_meaning.specs.Sizes.{greatest_height}
-use Rattle.qe_syntax.specs.Trees.{Bound, FormulaTree, formulas_of}
+use Rattle.logic_meaning.specs.Context.{Context}
+use Rattle.logic_meaning.specs.Formula.{One}
+use Rattle.logic_meaning.specs.Tree.{Tree}
+use Rattle.logic_meaning.specs.Replaced.{all_replaced}
+use Rattle.logic_meaning.specs.Sizes.{greatest_height}
+use Rattle.language_meaning.specs.Trees.{Bound, FormulaTree, formulas_of}
 use Rattle.formula_tree.specs.declared.shape.Shape.{Shape}
 use Rattle.formula_tree.specs.Shapes.{tree_over}
 use Rattle.formula_tree.specs.Makers.{IsMade, AreMade}
-use Rattle.resolved_formulas.specs.Somewhere.{SomeAtom, SomewhereIn}
-use Rattle.resolved_formulas.specs.Causes.{height_in_place, atom_in_place}
-use Rattle.resolved_formulas.specs.NamesAfter.{names_after}
-use Rattle.resolved_formulas.specs.Resolving.{BoundTrees, resolve}
-use Rattle.formula_tree.specs.Names.{place}
-use Rattle.formula_resolving.specs.declared.error.StaticError.{StaticError}
+use Rattle.language_meaning.specs.Somewhere.{SomeAtom, SomewhereIn}
+use Rattle.language_meaning.specs.Causes.{height_in_place, atom_in_place}
+use Rattle.language_meaning.specs.NamesAfter.{names_after}
+use Rattle.language_meaning.specs.Resolving.{BoundTrees, resolve}
+use Rattle.logic_meaning.specs.Names.{place}
+use Rattle.language_meaning.specs.declared.static_error.StaticError.{StaticError}
 use Rattle.formula_resolving.specs.declared.causes.Causes.{Causes}
 use Rattle.formula_resolving.specs.declared.parts.Part.{Part}
 use Rattle.formula_resolving.specs.declared.parts.Members.{Members}

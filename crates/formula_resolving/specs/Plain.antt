@@ -1,7 +1,7 @@
 -- The formulas of a maker that keeps a tree of its own for each.
 use Rattle.std.specs.Prelude.{◌<◌, List, get_or, length, map}
-use Rattle.formula_meaning.specs.Formula.{Yes}
-use Rattle.formula_meaning.specs.Tree.{Tree}
+use Rattle.logic_meaning.specs.Formula.{Yes}
+use Rattle.logic_meaning.specs.Tree.{Tree}
 use Rattle.formula_tree.specs.Trees.{tree_of}
 use Rattle.formula_resolving.specs.declared.plain.PlainId.{PlainId}
 use Rattle.formula_resolving.specs.declared.plain.PlainMaker.{PlainMaker}

@@ -5,7 +5,7 @@ ghost use Rattle.std.specs.Bool.{MatchBool};
 ghost use Rattle.formula_resolving.specs.MetCauses.{no_causes, either, IsRefused, is_met, IsFirstMet};
 ghost use Rattle.formula_resolving.specs.Heights.{over, told};
 
-use crate::error::StaticError;
+use language_meaning::StaticError;
 
 /// At most so high is a resolved formula.
 const MOST_HEIGHT: u64 = 512;

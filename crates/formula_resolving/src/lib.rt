@@ -2,16 +2,17 @@
 #![tactic(auto)]
 
 mod causes;
-mod error;
 mod numbering;
+mod order;
 mod parts;
 mod plain;
 mod reading;
 mod resolving;
 mod steps;
+mod text;
 
-pub use error::StaticError;
 pub use numbering::{bound_formula, number_formula};
+pub use order::{Step, commands_inside};
 pub use parts::{Members, Pair, Part};
 pub use plain::{PlainId, PlainMaker};
 pub use resolving::linearise;
@@ -19,3 +20,4 @@ pub use steps::{
     compared_part, congruent_part, constant_part, joined_part, negated_part, paired_part,
     quantified_part,
 };
+pub use text::number_text;

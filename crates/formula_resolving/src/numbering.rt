@@ -1,15 +1,16 @@
 //! The variables of a formula get their numbers, in the order of the text.
 
 ghost use Rattle.std.specs.Prelude.{◌≡◌, ◌≤◌, ◌∷◌, [], IfOk, length, map};
-ghost use Rattle.qe_syntax.specs.Trees.{terms_of, formulas_of};
-ghost use Rattle.qe_syntax.specs.CodeTrees.{term_tree, formula_tree};
-ghost use Rattle.qe_syntax.specs.Valued.{IsUnquantified};
-ghost use Rattle.resolved_formulas.specs.Resolving.{variables_of, variables_in, formula_variables, all_variables};
-ghost use Rattle.formula_tree.specs.Bindings.{bound_to};
+ghost use Rattle.language_meaning.specs.Trees.{terms_of, formulas_of};
+ghost use Rattle.written_syntax.specs.CodeTrees.{term_tree, formula_tree};
+ghost use Rattle.written_syntax.specs.Valued.{IsUnquantified};
+ghost use Rattle.language_meaning.specs.Resolving.{variables_of, variables_in, formula_variables, all_variables};
+ghost use Rattle.logic_meaning.specs.Bindings.{bound_to};
 ghost use Rattle.formula_resolving.specs.Numbering.{IsNumbered, Grows};
 
 use formula_tree::{Bindings, Names, NamesError};
-use qe_syntax::{Formula, Name, Term};
+use logic_meaning::Name;
+use written_syntax::{Formula, Term};
 
 /// What is bound to a name, which has at most 64 bytes; `None` exactly where nothing is.
 pub fn bound_formula<Id: Copy>(name: &Name, bound: &Bindings<Id>) -> Option<Id>
@@ -38,7 +39,7 @@ fn number_name<Id: Copy>(
 }
 
 /// Numbers the variables of a term, and answers whether something is bound to one of them.
-#[tactic(auto, using(crate::proofs::Numbered::steps, qe_syntax::proofs::TreeEquations::trees))]
+#[tactic(auto, using(crate::proofs::Numbered::steps, written_syntax::proofs::TreeEquations::trees))]
 #[cycle(terms)]
 fn number_term<Id: Copy>(
     term: &Term,
@@ -102,7 +103,7 @@ pub fn number_formula<Id: Copy>(
 }
 
 /// Numbers the variables of a formula that begins with no quantifier.
-#[tactic(auto, using(crate::proofs::Numbered::steps, qe_syntax::proofs::TreeEquations::trees))]
+#[tactic(auto, using(crate::proofs::Numbered::steps, written_syntax::proofs::TreeEquations::trees))]
 #[cycle(formulas)]
 fn number_matrix<Id: Copy>(
     formula: &Formula,

@@ -2,12 +2,12 @@
 
 ghost use Rattle.std.specs.Prelude.{◌≡◌, ◌++◌, List, ℕ, [], max, Some, IfOk, OnOk};
 ghost use Rattle.std.specs.Option.{option_to_list, ForSome};
-ghost use Rattle.atom_normal.specs.Atoms.{context_of, IsWellFormedNormal};
+ghost use Rattle.normal_atoms.specs.Atoms.{context_of, IsWellFormedNormal};
 ghost use Rattle.formula_tree.specs.Makers.{Keeps};
-ghost use Rattle.formula_meaning.specs.Tree.{Tree};
-ghost use Rattle.formula_tree.specs.Bindings.{bound_to};
-ghost use Rattle.resolved_formulas.specs.Answers.{with_inner};
-ghost use Rattle.resolved_formulas.specs.Resolving.{BoundTrees};
+ghost use Rattle.logic_meaning.specs.Tree.{Tree};
+ghost use Rattle.logic_meaning.specs.Bindings.{bound_to};
+ghost use Rattle.language_meaning.specs.Answers.{with_inner};
+ghost use Rattle.language_meaning.specs.Resolving.{BoundTrees};
 ghost use Rattle.formula_resolving.specs.BoundIds.{AreIds, trees_bound};
 ghost use Rattle.formula_tree.specs.Shapes.{AllIds, IsProperShape};
 ghost use Rattle.formula_resolving.specs.Parts.{IsFinished, IsNamePart};
@@ -16,11 +16,9 @@ ghost use Rattle.formula_resolving.specs.Connectives.{joined_shape, negated_shap
 
 use crate::causes::{Causes, told};
 use crate::numbering::bound_formula;
-use atom_normal::{Context, Normal};
-use formula_meaning::{Junction, Quantifier};
 use formula_tree::{Bindings, Ids, Maker, Shape};
-use linear_forms::VarId;
-use qe_syntax::Name;
+use logic_meaning::{Junction, Name, Quantifier, VarId};
+use normal_atoms::{Context, Normal};
 use std::alloc::{AllocError, Global};
 use written_atoms::ReadAtom;
 

@@ -2,8 +2,8 @@
 
 ghost use Rattle.std.specs.Prelude.{◌≡◌, [], map, IfOk, IfErr, IfSome};
 ghost use Rattle.std.specs.List.{AllByRecursion};
-ghost use Rattle.formula_meaning.specs.Sizes.{greatest_height};
-ghost use Rattle.formula_meaning.specs.Sizes as sizes;
+ghost use Rattle.logic_meaning.specs.Sizes.{greatest_height};
+ghost use Rattle.logic_meaning.specs.Sizes as sizes;
 ghost use Rattle.formula_tree.specs.Trees.{tree_of, members};
 ghost use Rattle.formula_tree.specs.Shapes.{AllIds, IsProperShape, tree_over};
 

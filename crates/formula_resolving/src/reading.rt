@@ -2,17 +2,17 @@
 
 ghost use Rattle.std.specs.Prelude.{◌≡◌, ◌≤◌, ◌<◌, ◌+◌, ℕ, length, IfOk, OnOk, map};
 ghost use Rattle.std.specs.List.{AllByRecursion};
-ghost use Rattle.formula_meaning.specs.Fold.{joined};
-ghost use Rattle.formula_meaning.specs.Formula.{One};
+ghost use Rattle.logic_meaning.specs.Fold.{joined};
+ghost use Rattle.logic_meaning.specs.Formula.{One};
 ghost use Rattle.written_atoms.specs.Read.{congruence_tree};
-ghost use Rattle.qe_syntax.specs.Proper.{IsProperTerm, IsProperFormula, AreProperFormulas};
-ghost use Rattle.qe_syntax.specs.Trees.{formulas_of, Compare};
-ghost use Rattle.qe_syntax.specs.Holes.{command_count, inner_name, all_of};
-ghost use Rattle.qe_syntax.specs.CodeTrees.{term_tree, formula_tree, whole_formula, named_tree, inner_of};
-ghost use Rattle.qe_syntax.specs.Valued.{matrix_of, IsUnquantified};
-ghost use Rattle.atom_normal.specs.Atoms.{context_of};
+ghost use Rattle.written_syntax.specs.Proper.{IsProperTerm, IsProperFormula, AreProperFormulas};
+ghost use Rattle.language_meaning.specs.Trees.{formulas_of, Compare};
+ghost use Rattle.language_meaning.specs.Holes.{command_count, inner_name, all_of};
+ghost use Rattle.written_syntax.specs.CodeTrees.{term_tree, formula_tree, whole_formula, named_tree, inner_of};
+ghost use Rattle.written_syntax.specs.Valued.{matrix_of, IsUnquantified};
+ghost use Rattle.normal_atoms.specs.Atoms.{context_of};
 ghost use Rattle.formula_tree.specs.Makers.{Keeps};
-ghost use Rattle.formula_tree.specs.Names.{place};
+ghost use Rattle.logic_meaning.specs.Names.{place};
 ghost use Rattle.formula_resolving.specs.BoundIds.{AreIds, answered_trees};
 ghost use Rattle.formula_resolving.specs.Parts.{IsPart, IsNamePart};
 ghost use Rattle.formula_resolving.specs.Connectives.{Opens, paired};
@@ -22,12 +22,13 @@ use crate::parts::{
     Members, Opening, Pair, Part, atom_part, finish, is_fields, joined, made_part, name_part,
     negation,
 };
-use atom_normal::Context;
-use formula_meaning::{Junction, Quantifier};
 use formula_tree::{Bindings, Maker, Names, Shape};
-use qe_syntax::{Formula, Relation, Term};
+use language_meaning::Relation;
+use logic_meaning::{Junction, Quantifier};
+use normal_atoms::Context;
 use std::alloc::{AllocError, Global};
 use written_atoms::{read_comparison, read_congruence};
+use written_syntax::{Formula, Term};
 
 /// The quantifiers with which the formula begins, and what stands after them.
 fn prefix<'a>(
@@ -157,7 +158,7 @@ pub(crate) fn read_formula<M: Maker>(
 }
 
 /// Reads a formula that begins with no quantifier.
-#[tactic(auto, using(qe_syntax::proofs::TreeEquations::trees, qe_syntax::proofs::TreeEquations::inners))]
+#[tactic(auto, using(written_syntax::proofs::TreeEquations::trees, written_syntax::proofs::TreeEquations::inners))]
 #[cycle(reading)]
 fn read_matrix<M: Maker>(
     scope: &Scope<'_, M::Id>,

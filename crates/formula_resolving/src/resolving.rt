@@ -1,24 +1,24 @@
 ghost use Rattle.std.specs.Prelude.{◌≡◌, ◌≤◌, length, IfOk, IfErr, OnOk, OnErr};
 ghost use Rattle.std.specs.List.{AllByRecursion};
-ghost use Rattle.qe_syntax.specs.Proper.{IsProperFormula};
-ghost use Rattle.qe_syntax.specs.Holes.{command_count};
-ghost use Rattle.qe_syntax.specs.CodeTrees.{formula_tree, named_tree, inner_of};
-ghost use Rattle.atom_normal.specs.Atoms.{context_of};
-ghost use Rattle.resolved_formulas.specs.Accepted.{IsAccepted};
+ghost use Rattle.written_syntax.specs.Proper.{IsProperFormula};
+ghost use Rattle.language_meaning.specs.Holes.{command_count};
+ghost use Rattle.written_syntax.specs.CodeTrees.{formula_tree, named_tree, inner_of};
+ghost use Rattle.normal_atoms.specs.Atoms.{context_of};
+ghost use Rattle.written_atoms.specs.FromResolvedFormulas.{IsAccepted};
 ghost use Rattle.formula_tree.specs.Makers.{IsMade, Keeps};
-ghost use Rattle.resolved_formulas.specs.Resolving.{resolve};
-ghost use Rattle.resolved_formulas.specs.NamesAfter.{names_after};
+ghost use Rattle.language_meaning.specs.Resolving.{resolve};
+ghost use Rattle.language_meaning.specs.NamesAfter.{names_after};
 ghost use Rattle.formula_resolving.specs.Numbering.{Grows};
 ghost use Rattle.formula_resolving.specs.BoundIds.{AreIds, answered_trees};
 ghost use Rattle.formula_resolving.specs.FirstCause.{IsFirstCause};
 
-use crate::error::StaticError;
 use crate::numbering::number_formula;
 use crate::reading::{Scope, read_formula};
-use atom_normal::Context;
 use formula_tree::{Bindings, Maker, Names};
-use qe_syntax::Formula;
+use language_meaning::StaticError;
+use normal_atoms::Context;
 use std::alloc::Global;
+use written_syntax::Formula;
 
 /// The resolved formula: bound names by their trees, each comparison and congruence by its normal atom, and each command inside
 /// the formula by the tree of its answer, where `inner` has the answers of the commands in the order of the text, and maybe

@@ -1,8 +1,8 @@
 -- In the list of the nodes of a formula the members of each stand before it.
 use Rattle.std.proofs.Common.{◌≡◌, ℕ, zero, suc, ◌<◌, ◌≤◌, inl, inr, List, [], ◌∷◌, Some, slice_get, length, get_or, take, refl, ap, sym, subst, arith}
 use Rattle.std.specs.List.{AllByRecursion}
-use Rattle.formula_meaning.specs.Some.{SomeOf, Among}
-use Rattle.formula_meaning.specs.StandsOnce.{StandsOnce}
+use Rattle.logic_meaning.specs.Some.{SomeOf, Among}
+use Rattle.formula_laws.specs.StandsOnce.{StandsOnce}
 use Rattle.formula_tree.specs.declared.shape.Shape.{Shape}
 use Rattle.formula_tree.specs.Shapes.{ids_of}
 use Rattle.formula_tree.proofs.Shapes.{all_listed}

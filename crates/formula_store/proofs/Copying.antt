@@ -1,7 +1,7 @@
 -- Copying a formula over the copies of its members.
 use Rattle.std.proofs.Common.{◌≡◌, inl, inr, List, [], ◌∷◌, map, get_or, refl, sym, ap, ◌∙◌, subst}
 use Rattle.std.specs.List.{AllByRecursion}
-use Rattle.formula_meaning.specs.Some.{Among}
+use Rattle.logic_meaning.specs.Some.{Among}
 use Rattle.formula_tree.specs.declared.shape.Shape.{Shape}
 use Rattle.formula_tree.specs.Makers.{AreMade, Keeps}
 use Rattle.formula_tree.specs.Shapes.{tree_over, AllIds}

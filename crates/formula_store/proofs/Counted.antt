@@ -4,15 +4,15 @@ use Rattle.std.proofs.lemmas.Option.{slice_get-get_or}
 use Rattle.std.proofs.lemmas.List.{length-map}
 use Rattle.std.specs.List.{AllByRecursion}
 use Rattle.std.specs.Cmp.{unsigned_Decides}
-use Rattle.formula_meaning.specs.Formula.{Yes, No, One, Not, And, Or, Impl, Repl, Equiv, Ex, All}
-use Rattle.formula_meaning.specs.Some.{SomeOf, Among}
-use Rattle.formula_meaning.specs.StandsOnce.{StandsOnce}
-use Rattle.formula_meaning.specs.Same.{same_atom}
-use Rattle.formula_meaning.specs.Sizes.{subtrees, all_subtrees, same_formula, distinct_subtrees, distinct_count}
-use Rattle.formula_meaning.specs.Tree.{Tree}
-use Rattle.formula_meaning.proofs.Listed.{among_left, among_right, among_append, distinct_among, among_distinct, distinct_once}
-use Rattle.formula_meaning.proofs.Same.{atom_same, atom_alike}
-use Rattle.formula_meaning.proofs.Sizes.{formula_same, formula_alike}
+use Rattle.logic_meaning.specs.Formula.{Yes, No, One, Not, And, Or, Impl, Repl, Equiv, Ex, All}
+use Rattle.logic_meaning.specs.Some.{SomeOf, Among}
+use Rattle.formula_laws.specs.StandsOnce.{StandsOnce}
+use Rattle.logic_meaning.specs.Same.{same_atom}
+use Rattle.logic_meaning.specs.Sizes.{subtrees, all_subtrees, same_formula, distinct_subtrees, distinct_count}
+use Rattle.logic_meaning.specs.Tree.{Tree}
+use Rattle.formula_laws.proofs.Listed.{among_left, among_right, among_append, distinct_among, among_distinct, distinct_once}
+use Rattle.formula_laws.proofs.Same.{atom_same, atom_alike}
+use Rattle.formula_laws.proofs.Sizes.{formula_same, formula_alike}
 use Rattle.formula_tree.specs.declared.shape.Shape.{Shape}
 use Rattle.formula_tree.specs.declared.shape.Shape.TheVariants as shape
 use Rattle.formula_tree.specs.Trees.{members}

@@ -2,14 +2,14 @@
 use Rattle.std.proofs.Common.{◌≡◌, ℕ, Bool, true, false, List, Some, slice_get, refl, sym, ap, ◌∙◌, subst, ◌↔◌, IsTrue, inl}
 use Rattle.std.specs.Prelude.{ℤ, unsigned_abs}
 use Rattle.std.specs.Bool.{beq}
-use Rattle.formula_meaning.specs.Point.{Point}
-use Rattle.formula_meaning.specs.Formula.{Equiv, One}
-use Rattle.formula_meaning.specs.Atom.{Congruent}
-use Rattle.formula_meaning.specs.Sizes.{subtrees}
-use Rattle.formula_tree.specs.FromAtomNormal.{Atom as Code, atom_of, IsAskedWhole}
-use Rattle.formula_tree.specs.FromAtomNormal.atom_variants as atom
-use Rattle.formula_meaning.specs.Some.{Among}
-use Rattle.formula_meaning.specs.Tree.{Tree}
+use Rattle.logic_meaning.specs.Point.{Point}
+use Rattle.logic_meaning.specs.Formula.{Equiv, One}
+use Rattle.logic_meaning.specs.Atom.{Congruent}
+use Rattle.logic_meaning.specs.Sizes.{subtrees}
+use Rattle.formula_tree.specs.FromNormalAtoms.{Atom as Code, atom_of, IsAskedWhole}
+use Rattle.formula_tree.specs.FromNormalAtoms.atom_variants as atom
+use Rattle.logic_meaning.specs.Some.{Among}
+use Rattle.logic_meaning.specs.Tree.{Tree}
 use Rattle.formula_tree.specs.declared.shape.Shape.{Shape}
 use Rattle.formula_tree.specs.Shapes.{AllIds, tree_over}
 use Rattle.formula_store.specs.declared.id.FormulaId.{FormulaId}

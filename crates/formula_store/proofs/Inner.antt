@@ -2,10 +2,10 @@
 use Rattle.std.proofs.Common.{◌≡◌, inl, inr, List, [], ◌∷◌, map, sym, subst}
 use Rattle.std.specs.Prelude.{ℤ}
 use Rattle.std.specs.List.{AllByRecursion}
-use Rattle.formula_meaning.specs.Some.{SomeOf, Among}
-use Rattle.formula_meaning.specs.Shape.{IsQuantifierFree, AreQuantifierFree}
-use Rattle.formula_meaning.specs.Sizes.{subtrees}
-use Rattle.formula_meaning.specs.Tree.{Tree}
+use Rattle.logic_meaning.specs.Some.{SomeOf, Among}
+use Rattle.logic_meaning.specs.Shape.{IsQuantifierFree, AreQuantifierFree}
+use Rattle.logic_meaning.specs.Sizes.{subtrees}
+use Rattle.logic_meaning.specs.Tree.{Tree}
 use Rattle.formula_tree.specs.FromLinearForms.{Numbers}
 use Rattle.formula_tree.specs.declared.shape.Shape.{Shape}
 use Rattle.formula_tree.specs.declared.shape.Shape.TheVariants as shape

@@ -1,7 +1,7 @@
 -- Facts joined one after another.
 use Rattle.std.proofs.Common.{◌≡◌, ◌≤◌, ◌||◌, Bool, true, false, refl, sym, ◌∙◌, arith}
-use Rattle.formula_meaning.specs.Tree.{Trees}
-use Rattle.formula_meaning.specs.Formula.{none}
+use Rattle.logic_meaning.specs.Tree.{Trees}
+use Rattle.logic_meaning.specs.Formula.{none}
 use Rattle.formula_store.specs.declared.facts.Facts.{Facts}
 use Rattle.formula_store.specs.Facts.{most_nodes, AreFactsOf}
 use Rattle.formula_store.specs.Together.{Join}

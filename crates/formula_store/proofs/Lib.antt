@@ -26,3 +26,6 @@ pub mod Filling
 pub mod Cut
 pub mod Taking
 mod Sorting
+pub mod Kept
+pub mod Normal
+pub mod Planned

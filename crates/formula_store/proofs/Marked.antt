@@ -2,7 +2,7 @@
 use Rattle.std.proofs.Common.{subst, ◌≡◌, ℕ, zero, suc, ◌<◌, ◌⊎◌, inl, inr, ⊎_elim, Bool, true, false, List, [], ◌∷◌, ◌++◌, length, get_or, refl, sym, ◌∙◌, arith, nat_eq, true≢false}
 use Rattle.std.specs.Cmp.{unsigned_Decides}
 use Rattle.std.specs.List.{AllByRecursion}
-use Rattle.formula_meaning.specs.Some.{SomeOf, Among}
+use Rattle.logic_meaning.specs.Some.{SomeOf, Among}
 use Rattle.formula_store.specs.declared.id.FormulaId.{FormulaId}
 
 pub all_on : (P Q : FormulaId → Type 0) → ((x : FormulaId) → P x → Q x) → (xs : List FormulaId) → AllByRecursion P xs → AllByRecursion Q xs

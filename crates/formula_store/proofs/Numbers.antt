@@ -2,10 +2,10 @@
 use Rattle.std.proofs.Common.{◌≡◌, ℕ, zero, suc, ◌<◌, List, [], ◌∷◌, get_or, slice_get, Some, length, map, sym, subst, arith}
 use Rattle.std.specs.List.{AllByRecursion}
 use Rattle.std.proofs.lemmas.Option.{slice_get-get_or}
-use Rattle.formula_meaning.specs.Every.{Every, EveryOf}
-use Rattle.formula_meaning.specs.Numbers.{IsAtomInLimit}
-use Rattle.formula_meaning.specs.Tree.{Tree}
-use Rattle.formula_tree.proofs.FromAtomNormal.{numbers_within}
+use Rattle.logic_meaning.specs.Every.{Every, EveryOf}
+use Rattle.logic_meaning.specs.Numbers.{IsAtomInLimit}
+use Rattle.logic_meaning.specs.Tree.{Tree}
+use Rattle.formula_tree.proofs.FromNormalAtoms.{numbers_within}
 use Rattle.formula_tree.specs.declared.shape.Shape.{Shape}
 use Rattle.formula_tree.specs.declared.shape.Shape.TheVariants as shape
 use Rattle.formula_tree.specs.Trees.{members}

@@ -3,11 +3,11 @@ use Rattle.std.proofs.Common.{◌≡◌, ℕ, zero, suc, ◌+◌, ◌<◌, take,
 use Rattle.std.proofs.lemmas.List.{take_more}
 use Rattle.std.specs.Bool.{beq}
 use Rattle.std.specs.List.{AllByRecursion}
-use Rattle.formula_meaning.specs.Context.{Context}
-use Rattle.formula_meaning.specs.Point.{Point}
-use Rattle.formula_meaning.specs.Formula.{Not, And, Or, Impl, Repl, Equiv}
-use Rattle.formula_meaning.specs.Some.{SomeOf}
-use Rattle.formula_meaning.specs.Tree.{Tree, TrueAt}
+use Rattle.logic_meaning.specs.Context.{Context}
+use Rattle.logic_meaning.specs.Point.{Point}
+use Rattle.logic_meaning.specs.Formula.{Not, And, Or, Impl, Repl, Equiv}
+use Rattle.logic_meaning.specs.Some.{SomeOf}
+use Rattle.logic_meaning.specs.Tree.{Tree, TrueAt}
 use Rattle.formula_store.specs.declared.id.FormulaId.{FormulaId}
 use Rattle.formula_tree.specs.Trees.{members}
 use Rattle.formula_store.specs.Truths.{Tells}

@@ -1,6 +1,6 @@
 -- What was made beside a store, and what it stands for over any store with as many nodes.
 use Rattle.std.specs.Prelude.{◌≡◌, ℕ, ◌+◌, ◌<◌, List, ◌++◌, Some, slice_get, length, take}
-use Rattle.formula_meaning.specs.Tree.{Tree}
+use Rattle.logic_meaning.specs.Tree.{Tree}
 use Rattle.formula_tree.specs.declared.shape.Shape.{Shape}
 use Rattle.formula_tree.specs.Shapes.{AllIds, IsProperShape}
 use Rattle.formula_store.specs.declared.id.FormulaId.{FormulaId}

@@ -1,8 +1,8 @@
 -- What a store knows of each formula.
 use Rattle.std.specs.Prelude.{◌≡◌, ℕ, min}
-use Rattle.formula_meaning.specs.Tree.{Tree, Trees}
-use Rattle.formula_meaning.specs.Sizes.{nodes, all_nodes, height, greatest_height}
-use Rattle.formula_tree.specs.Quantified.{has_quantifier, some_quantifier}
+use Rattle.logic_meaning.specs.Tree.{Tree, Trees}
+use Rattle.logic_meaning.specs.Sizes.{nodes, all_nodes, height, greatest_height}
+use Rattle.logic_meaning.specs.Quantified.{has_quantifier, some_quantifier}
 use Rattle.formula_store.specs.declared.facts.Facts.{Facts}
 
 -- more nodes than these count as so many

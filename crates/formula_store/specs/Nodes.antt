@@ -1,7 +1,7 @@
 -- The trees of a list of nodes, whose ids are the places of nodes before them.
 use Rattle.std.specs.Prelude.{◌≡◌, ℕ, ◌<◌, List, [], ◌∷◌, ◌++◌, get_or, slice_get, Some, length, ◌⊎◌}
-use Rattle.formula_meaning.specs.Formula.{Yes}
-use Rattle.formula_meaning.specs.Tree.{Tree}
+use Rattle.logic_meaning.specs.Formula.{Yes}
+use Rattle.logic_meaning.specs.Tree.{Tree}
 use Rattle.formula_tree.specs.declared.shape.Shape.{Shape}
 use Rattle.formula_tree.specs.Shapes.{tree_over, AllIds, IsProperShape}
 use Rattle.formula_store.specs.declared.id.FormulaId.{FormulaId}

@@ -3,7 +3,7 @@ use Rattle.std.specs.BTreeSet.{BTreeSet, contains}
 use Rattle.std.specs.Ordering.{nat_cmp}
 use Rattle.std.specs.Prelude.{◌≡◌, ℕ, ◌<◌, ◌≤◌, Bool, true, false, List, [], ◌∷◌, Some, slice_get, length, ◌⊎◌}
 use Rattle.std.specs.List.{AllByRecursion}
-use Rattle.formula_meaning.specs.Some.{SomeOf, Among}
+use Rattle.logic_meaning.specs.Some.{SomeOf, Among}
 use Rattle.formula_tree.specs.declared.shape.Shape.{Shape}
 use Rattle.formula_tree.specs.declared.shape.Shape.TheVariants as shape
 use Rattle.formula_tree.specs.Shapes.{ids_of}

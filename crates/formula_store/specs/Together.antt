@@ -1,8 +1,8 @@
 -- What is known of a list of formulas, while it is gone through.
 use Rattle.std.specs.Prelude.{◌≡◌, ◌+◌, max, min, ◌||◌}
-use Rattle.formula_meaning.specs.Tree.{Trees}
-use Rattle.formula_meaning.specs.Sizes.{all_nodes, greatest_height}
-use Rattle.formula_tree.specs.Quantified.{some_quantifier}
+use Rattle.logic_meaning.specs.Tree.{Trees}
+use Rattle.logic_meaning.specs.Sizes.{all_nodes, greatest_height}
+use Rattle.logic_meaning.specs.Quantified.{some_quantifier}
 use Rattle.formula_store.specs.declared.facts.Facts.{Facts}
 use Rattle.formula_store.specs.Facts.{most_nodes}
 

@@ -1,14 +1,15 @@
 -- Truths of formulas without quantifiers, as a table has them.
 use Rattle.std.specs.Prelude.{◌≡◌, ℕ, ℤ, pos, Bool, true, false}
-use Rattle.formula_meaning.specs.Context.{Context}
-use Rattle.formula_meaning.specs.Point.{Point}
-use Rattle.formula_meaning.specs.Form.{Form}
-use Rattle.formula_meaning.specs.Formula.{One}
-use Rattle.formula_meaning.specs.Atom.{Atom, Congruent, form_of}
-use Rattle.formula_meaning.specs.Some.{Among}
-use Rattle.formula_meaning.specs.Sizes.{subtrees}
-use Rattle.formula_meaning.specs.Tree.{Tree, TrueAt}
-use Rattle.formula_tree.specs.FromLinearForms.{ValuePasses, Numbers, number_at}
+use Rattle.logic_meaning.specs.Context.{Context}
+use Rattle.logic_meaning.specs.Point.{Point}
+use Rattle.logic_meaning.specs.Form.{Form}
+use Rattle.logic_meaning.specs.Formula.{One}
+use Rattle.logic_meaning.specs.Atom.{Atom, Congruent, form_of}
+use Rattle.logic_meaning.specs.Some.{Among}
+use Rattle.logic_meaning.specs.Sizes.{subtrees}
+use Rattle.logic_meaning.specs.Tree.{Tree, TrueAt}
+use Rattle.formula_tree.specs.FromLinearForms.{Numbers, number_at}
+use Rattle.logic_meaning.specs.Terms.{ValuePasses}
 
 -- the truth is that of the formula at the point, in both theories
 abbrev pub Tells : Bool → Tree → Point ℕ → Type 0

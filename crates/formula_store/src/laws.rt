@@ -3,8 +3,8 @@
 ghost use Rattle.std.specs.Prelude.{◌≡◌, ◌≤◌, List, length};
 ghost use Rattle.formula_tree.specs.declared.shape.Shape.{Shape};
 ghost use Rattle.formula_store.specs.declared.id.FormulaId.{FormulaId};
-ghost use Rattle.formula_meaning.specs.Every.{Every};
-ghost use Rattle.formula_meaning.specs.Numbers.{IsAtomInLimit};
+ghost use Rattle.logic_meaning.specs.Every.{Every};
+ghost use Rattle.logic_meaning.specs.Numbers.{IsAtomInLimit};
 ghost use Rattle.formula_store.specs.Changes.{Change, Grows, tree_on};
 ghost use Rattle.formula_store.specs.Layers.{Layers, all};
 ghost use Rattle.formula_store.specs.Nodes.{IsId, tree};

@@ -1,8 +1,8 @@
 ghost use Rattle.std.specs.Prelude.{◌≡◌, ◌≤◌, ◌<◌, ◌+◌, ◌^◌, ℕ, [], ◌∷◌, List, Some, MatchOption, take, IfOk, IfErr, OnOk, OnErr, IsErrOf, length, map, nat_eq, slice_get};
 ghost use Rattle.std.specs.List.{AllByRecursion};
-ghost use Rattle.formula_meaning.specs.Same.{same_atom};
-ghost use Rattle.formula_meaning.specs.Sizes.{nodes, height, distinct_count};
-ghost use Rattle.formula_meaning.specs.Shape.{IsQuantifierFree};
+ghost use Rattle.logic_meaning.specs.Same.{same_atom};
+ghost use Rattle.logic_meaning.specs.Sizes.{nodes, height, distinct_count};
+ghost use Rattle.logic_meaning.specs.Shape.{IsQuantifierFree};
 ghost use Rattle.formula_tree.specs.FromLinearForms.{point_of};
 ghost use Rattle.formula_store.specs.Truths.{Tells, SomeAtomPasses, IsWholeWhereAsked};
 ghost use Rattle.formula_tree.specs.Makers.{AreMade, IsMade, Keeps};

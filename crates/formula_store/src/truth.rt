@@ -2,10 +2,10 @@
 
 ghost use Rattle.std.specs.Prelude.{◌≡◌, ◌≤◌, ◌<◌, ◌+◌, Bool, not, ◌||◌, true, false, pos, IfOk, IsErrOf, IsTrue, nat_eq, ◌↔◌, Some, MatchOption, length, get_or, slice_get};
 ghost use Rattle.std.specs.List.{AllByRecursion};
-ghost use Rattle.formula_meaning.specs.Some.{SomeOf};
-ghost use Rattle.formula_meaning.specs.Same.{same_atom};
-ghost use Rattle.formula_meaning.specs.Sizes.{distinct_count};
-ghost use Rattle.formula_meaning.specs.Shape.{IsQuantifierFree};
+ghost use Rattle.logic_meaning.specs.Some.{SomeOf};
+ghost use Rattle.logic_meaning.specs.Same.{same_atom};
+ghost use Rattle.logic_meaning.specs.Sizes.{distinct_count};
+ghost use Rattle.logic_meaning.specs.Shape.{IsQuantifierFree};
 ghost use Rattle.formula_tree.specs.declared.shape.Shape.{Shape};
 ghost use Rattle.formula_tree.specs.Shapes.{AllIds};
 ghost use Rattle.formula_tree.specs.FromLinearForms.{point_of};

@@ -2,11 +2,11 @@
 use Rattle.std.proofs.Common.{◌≡◌, refl, ap, arith}
 use Rattle.std.proofs.lemmas.Int.{ints}
 use Rattle.std.specs.Prelude.{pos, ◌<ℤ◌, ℤ, unsigned_abs}
-use Rattle.atom_normal.specs.declared.atoms.Rel.{Rel}
-use Rattle.atom_normal.specs.declared.atoms.Rel.TheVariants as rel
-use Rattle.atom_normal.specs.declared.atoms.Atom.{Atom}
-use Rattle.atom_normal.specs.declared.atoms.Atom.TheVariants as atom
-use Rattle.atom_normal.specs.Atoms.{atom_of, relation_of, IsWellFormed}
+use Rattle.normal_atoms.specs.declared.atoms.Rel.{Rel}
+use Rattle.normal_atoms.specs.declared.atoms.Rel.TheVariants as rel
+use Rattle.normal_atoms.specs.declared.atoms.Atom.{Atom}
+use Rattle.normal_atoms.specs.declared.atoms.Atom.TheVariants as atom
+use Rattle.normal_atoms.specs.Atoms.{atom_of, relation_of, IsWellFormed}
 
 pub relations_tell : (r s : Rel) → relation_of r ≡ relation_of s → r ≡ s
 relations_tell rel.Equal rel.Equal e = refl

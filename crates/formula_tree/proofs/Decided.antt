@@ -7,17 +7,18 @@ use Rattle.std.specs.Cmp.Lexicographic.{pointwise}
 use Rattle.std.specs.Prelude.{nat_eq, ℤ}
 use Rattle.std.specs.Ordering.{int_eq}
 use Rattle.std.specs.declared.cmp.PartialEq.{Ghosts}
-use Rattle.formula_meaning.specs.Form.{Form}
-use Rattle.atom_normal.specs.FromLinearForms.{form_eq, form_decides, VarId}
-use Rattle.atom_normal.specs.declared.atoms.Rel.{Rel}
-use Rattle.atom_normal.specs.declared.atoms.Rel.TheVariants as rel
-use Rattle.atom_normal.specs.declared.atoms.Atom.{Atom}
-use Rattle.atom_normal.specs.declared.atoms.Atom.TheVariants as atom
+use Rattle.logic_meaning.specs.Form.{Form}
+use Rattle.normal_atoms.specs.FromLinearForms.{form_eq, form_decides}
+use Rattle.logic_meaning.specs.declared.form.VarId.{VarId}
+use Rattle.normal_atoms.specs.declared.atoms.Rel.{Rel}
+use Rattle.normal_atoms.specs.declared.atoms.Rel.TheVariants as rel
+use Rattle.normal_atoms.specs.declared.atoms.Atom.{Atom}
+use Rattle.normal_atoms.specs.declared.atoms.Atom.TheVariants as atom
 use Rattle.formula_tree.specs.declared.shape.Shape.{Shape}
 use Rattle.formula_tree.specs.declared.shape.Shape.TheVariants as shape
 use Rattle.formula_tree.specs.contracts.shape.ShapePartialEq.TheImpl as impl
-use Rattle.atom_normal.specs.contracts.atoms.RelPartialEq.TheImpl as relations
-use Rattle.atom_normal.specs.contracts.atoms.AtomPartialEq.TheImpl as atoms
+use Rattle.normal_atoms.specs.contracts.atoms.RelPartialEq.TheImpl as relations
+use Rattle.normal_atoms.specs.contracts.atoms.AtomPartialEq.TheImpl as atoms
 
 pub same_relation : (r s : Rel) → relations.ghosts.eq r s ≡ true → r ≡ s
 same_relation rel.Equal rel.Equal h = refl

@@ -1,2 +1,2 @@
 -- What the crates above name of `linear_forms`.
-pub use Rattle.atom_normal.proofs.FromLinearForms.{on_ok}
+pub use Rattle.normal_atoms.proofs.FromLinearForms.{on_ok}

@@ -4,5 +4,5 @@ pub mod Tells
 pub mod AtomsTell
 pub mod Decided
 pub mod NamePlaces
-pub mod FromAtomNormal
 pub mod FromLinearForms
+pub mod FromNormalAtoms

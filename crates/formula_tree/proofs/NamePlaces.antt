@@ -3,9 +3,9 @@ use Rattle.std.proofs.Common.{◌≡◌, ◌≤◌, ◌+◌, ℕ, Bool, true, fa
 use Rattle.std.specs.Prelude.{option_map, unwrap_or, position}
 use Rattle.std.specs.List.{prefix_len}
 use Rattle.std.proofs.lemmas.Bool.{ltb-false}
-use Rattle.atom_normal.specs.FromLinearForms.{VarId}
-use Rattle.qe_names.specs.SameName.{same_name}
-use Rattle.formula_tree.specs.Names.{place}
+use Rattle.logic_meaning.specs.declared.form.VarId.{VarId}
+use Rattle.logic_meaning.specs.SameName.{same_name}
+use Rattle.logic_meaning.specs.Names.{place}
 
 prefix_within : {X : Type 0} (p : X → Bool) (xs : List X) → prefix_len p xs ≤ length xs
 prefix_within p [] = omega arith

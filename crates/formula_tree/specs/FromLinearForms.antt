@@ -1,2 +1,4 @@
 -- What the crates above name of `linear_forms`.
-pub use Rattle.atom_normal.specs.FromLinearForms.{Numbers, ValuePasses, VarId, number_at, point_of}
+pub use Rattle.normal_atoms.specs.FromLinearForms.{Numbers}
+pub use Rattle.normal_atoms.specs.FromLinearForms.{number_at}
+pub use Rattle.normal_atoms.specs.FromLinearForms.{point_of}

@@ -1,8 +1,5 @@
-pub mod Names
-pub mod Bindings
 pub mod Trees
 pub mod Shapes
 pub mod Makers
-pub mod Quantified
-pub mod FromAtomNormal
 pub mod FromLinearForms
+pub mod FromNormalAtoms

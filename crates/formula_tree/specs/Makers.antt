@@ -1,7 +1,7 @@
 -- What is promised of the ids of formulas.
 use Rattle.std.specs.Prelude.{◌≡◌, List, map}
 use Rattle.std.specs.List.{AllByRecursion}
-use Rattle.formula_meaning.specs.Tree.{Tree}
+use Rattle.logic_meaning.specs.Tree.{Tree}
 
 -- the id is one, and stands for the formula
 pub record IsMade {Id : Type 0} (is_id : Id → Type 0) (tree : Id → Tree) (id : Id) (f : Tree) : Type 0 where

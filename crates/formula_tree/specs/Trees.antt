@@ -1,8 +1,8 @@
 -- Resolved formulas as trees of plain data: what the code's values stand for, with no memory in it.
 use Rattle.std.specs.Prelude.{List, [], ◌∷◌}
-use Rattle.formula_meaning.specs.Formula.{Yes, No, One, Not, And, Or, Impl, Repl, Equiv, Ex, All, none, also}
-use Rattle.formula_meaning.specs.Tree as meaning
-use Rattle.atom_normal.specs.Atoms.{atom_of}
+use Rattle.logic_meaning.specs.Formula.{Yes, No, One, Not, And, Or, Impl, Repl, Equiv, Ex, All, none, also}
+use Rattle.logic_meaning.specs.Tree as meaning
+use Rattle.normal_atoms.specs.Atoms.{atom_of}
 use Rattle.formula_tree.specs.declared.tree.Tree as code
 use Rattle.formula_tree.specs.declared.tree.Tree.TheOpen as layer
 use Rattle.formula_tree.specs.declared.tree.Trees as codes

@@ -1,11 +1,11 @@
 ghost use Rattle.std.specs.Prelude.{◌≡◌, ◌<◌, ◌≤◌, ℕ, [], Some, None, Err, IfErr, OnOk, OnErr, length, slice_get, option_map};
 ghost use Rattle.std.specs.List.{IsDistinct};
 ghost use Rattle.std.specs.Map.{keys_of};
-ghost use Rattle.qe_names.specs.SameName.{same_name};
-ghost use Rattle.formula_tree.specs.Bindings.{bound_to, bind, most_bound};
+ghost use Rattle.logic_meaning.specs.SameName.{same_name};
+ghost use Rattle.logic_meaning.specs.Bindings.{bound_to, bind, most_bound};
 
 use indexmap::IndexMap;
-use qe_names::Name;
+use logic_meaning::Name;
 use std::alloc::Global;
 use std::marker::Model;
 use thiserror::Error;
@@ -34,7 +34,7 @@ impl<Id> Model for Bindings<Id> {
     ghost use Rattle.std.specs.Prelude.{List, ℕ};
     ghost use Rattle.std.specs.List.{IsDistinct};
     ghost use Rattle.std.specs.Map.{keys_of};
-    ghost use Rattle.qe_names.specs.SameName.{same_name};
+    ghost use Rattle.logic_meaning.specs.SameName.{same_name};
 
     ghost Value = { List (List ℕ × Id) };
 

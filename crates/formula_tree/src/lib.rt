@@ -8,10 +8,10 @@ mod names;
 mod shape;
 mod tree;
 
-pub use atom_normal::{Atom, Linear, Rel, Values, VarId, negate, truth};
 pub use bindings::{BindError, Bindings};
 pub use error::FormError;
 pub use maker::{MakeError, Maker};
 pub use names::{Names, NamesError};
+pub use normal_atoms::{Atom, Values, negate, truth};
 pub use shape::{Ids, Shape};
 pub use tree::{Tree, Trees};

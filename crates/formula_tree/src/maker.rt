@@ -1,6 +1,6 @@
 ghost use Rattle.std.specs.Prelude.{◌≡◌, IfOk, IfErr};
-ghost use Rattle.formula_meaning.specs.Sizes.{height};
-ghost use Rattle.formula_meaning.specs.Tree.{Tree};
+ghost use Rattle.logic_meaning.specs.Sizes.{height};
+ghost use Rattle.logic_meaning.specs.Tree.{Tree};
 ghost use Rattle.formula_tree.specs.declared.maker.MakeError.TheVariants.{Memory};
 ghost use Rattle.formula_tree.specs.Shapes.{AllIds, IsProperShape, tree_over};
 ghost use Rattle.formula_tree.specs.Makers.{IsMade, Keeps};

@@ -1,10 +1,9 @@
 ghost use Rattle.std.specs.Prelude.{◌≡◌, ◌≤◌, ℕ, [], Some, IfOk, IfErr, OnOk, OnErr, length, take, position, slice_get, option_map};
-ghost use Rattle.qe_names.specs.SameName.{same_name};
-ghost use Rattle.formula_tree.specs.Names.{with_name, place};
+ghost use Rattle.logic_meaning.specs.SameName.{same_name};
+ghost use Rattle.logic_meaning.specs.Names.{with_name, place};
 
-use atom_normal::VarId;
 use indexmap::IndexSet;
-use qe_names::Name;
+use logic_meaning::{Name, VarId};
 use std::alloc::Global;
 use std::marker::Model;
 use thiserror::Error;
@@ -26,7 +25,7 @@ pub struct Names {
 impl Model for Names {
     ghost use Rattle.std.specs.Prelude.{List, ℕ};
     ghost use Rattle.std.specs.List.{IsDistinct};
-    ghost use Rattle.qe_names.specs.SameName.{same_name};
+    ghost use Rattle.logic_meaning.specs.SameName.{same_name};
 
     ghost Value = { List (List ℕ) };
 

@@ -1,7 +1,8 @@
 ghost use Rattle.std.specs.Cmp.Lexicographic.{pointwise, lists_per, lists_equiv};
 ghost use Rattle.std.specs.Hash as fed;
 
-use atom_normal::{Atom, VarId};
+use logic_meaning::VarId;
+use normal_atoms::Atom;
 use std::hash::{Hash, Hasher};
 use std::marker::Model;
 

@@ -3,7 +3,8 @@ ghost use Rattle.formula_tree.specs.Shapes.{tree_over};
 ghost use Rattle.formula_tree.specs.Trees.{tree_of, trees_of, members};
 
 use crate::shape::Shape;
-use atom_normal::{Atom, VarId};
+use logic_meaning::VarId;
+use normal_atoms::Atom;
 use std::alloc::{AllocError, Global};
 
 /// A resolved formula: its names are numbers, and its atoms compare linear forms with 0.

@@ -6,9 +6,9 @@ use Rattle.std.specs.Cmp.{nat_cmp_is}
 use Rattle.std.specs.Ordering.{nat_cmp, is_eq}
 use Rattle.std.specs.declared.cmp.Ordering.TheVariants.{Equal}
 use Rattle.std.specs.BTreeMap.{is_at}
-use Rattle.formula_meaning.specs.Some.{SomeOf}
-use Rattle.qe_syntax.proofs.NameOrder.{by_at}
-use Rattle.qe_syntax.proofs.EntryLists.{some_left, some_right, some_split, some_one}
+use Rattle.logic_meaning.specs.Some.{SomeOf}
+use Rattle.written_syntax.proofs.NameOrder.{by_at}
+use Rattle.written_syntax.proofs.EntryLists.{some_left, some_right, some_split, some_one}
 use Rattle.free_names.specs.Scopes.{IsIn}
 
 pub at_same : (n m : ℕ) → is_at (nat_cmp n) m ≡ true → n ≡ m

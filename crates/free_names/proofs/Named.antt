@@ -2,26 +2,26 @@
 use Rattle.std.proofs.Common.{◌≡◌, ◌⊎◌, ⊎_elim, ℕ, suc, ◌+◌, ◌<◌, ◌≤◌, List, ◌∷◌, map, drop, get_or, length, true, false, ◌||◌, ap, sym, refl, ◌∙◌}
 use Rattle.std.specs.declared.boxed.Box.{Box}
 use Rattle.std.specs.declared.alloc.Global.{Global}
-use Rattle.formula_meaning.specs.Every.{FreeInSome}
-use Rattle.formula_meaning.specs.Fold.{joined}
-use Rattle.formula_meaning.specs.declared.junction.Junction.{Junction}
-use Rattle.formula_meaning.specs.declared.junction.Junction.TheVariants.{Conjunction, Disjunction}
-use Rattle.formula_meaning.specs.Replaced.{replaced, all_replaced}
-use Rattle.formula_meaning.specs.Sizes.{nodes, all_nodes}
-use Rattle.formula_meaning.specs.Tree.{Tree}
-use Rattle.formula_meaning.specs.Formula.{One, none, also}
-use Rattle.qe_syntax.specs.declared.tree.Formula as written
-use Rattle.qe_syntax.specs.declared.tree.Formula.TheVariants as formula
-use Rattle.qe_syntax.specs.declared.tree.Formulas as writtens
-use Rattle.qe_syntax.specs.Trees.{WrittenAtom, FormulaTree, FormulaTrees, formulas_of}
-use Rattle.qe_syntax.specs.Holes.{command_count, all_of}
-use Rattle.qe_syntax.specs.CodeTrees.{whole_formula, whole_formulas, formula_tree, named_tree, inner_of}
-use Rattle.qe_syntax.specs.Valued.{matrix_of, IsUnquantified}
-use Rattle.qe_syntax.proofs.EntryLists.{rest_at, none_left}
-use Rattle.qe_syntax.proofs.Quantified.{no_prefix}
-use Rattle.qe_syntax.proofs.TreeEquations.{named-Ex, named-All}
-use Rattle.formula_tree.specs.Quantified.{has_quantifier, some_quantifier}
-use Rattle.resolved_formulas.specs.Resolving.{BoundTrees, MentionsNumber, IsFreeInPlace}
+use Rattle.logic_meaning.specs.Every.{FreeInSome}
+use Rattle.logic_meaning.specs.Fold.{joined}
+use Rattle.logic_meaning.specs.declared.junction.Junction.{Junction}
+use Rattle.logic_meaning.specs.declared.junction.Junction.TheVariants.{Conjunction, Disjunction}
+use Rattle.logic_meaning.specs.Replaced.{replaced, all_replaced}
+use Rattle.logic_meaning.specs.Sizes.{nodes, all_nodes}
+use Rattle.logic_meaning.specs.Tree.{Tree}
+use Rattle.logic_meaning.specs.Formula.{One, none, also}
+use Rattle.written_syntax.specs.declared.tree.Formula as written
+use Rattle.written_syntax.specs.declared.tree.Formula.TheVariants as formula
+use Rattle.written_syntax.specs.declared.tree.Formulas as writtens
+use Rattle.language_meaning.specs.Trees.{WrittenAtom, FormulaTree, FormulaTrees, formulas_of}
+use Rattle.language_meaning.specs.Holes.{command_count, all_of}
+use Rattle.written_syntax.specs.CodeTrees.{whole_formula, whole_formulas, formula_tree, named_tree, inner_of}
+use Rattle.written_syntax.specs.Valued.{matrix_of, IsUnquantified}
+use Rattle.written_syntax.proofs.EntryLists.{rest_at, none_left}
+use Rattle.written_syntax.proofs.Quantified.{no_prefix}
+use Rattle.written_syntax.proofs.TreeEquations.{named-Ex, named-All}
+use Rattle.logic_meaning.specs.Quantified.{has_quantifier, some_quantifier}
+use Rattle.language_meaning.specs.Resolving.{BoundTrees, MentionsNumber, IsFreeInPlace}
 use Rattle.formula_resolving.specs.declared.parts.Pair.{Pair}
 use Rattle.formula_resolving.specs.declared.parts.Pair.TheVariants as pair
 use Rattle.formula_resolving.specs.Connectives.{paired}

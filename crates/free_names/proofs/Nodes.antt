@@ -2,7 +2,7 @@
 use Rattle.std.proofs.Common.{◌≡◌, ◌<◌, ◌⊎◌, inl, inr, ⊎_elim, ℕ, List, [], ◌∷◌, map, Bool, true, false, cond, Some, slice_get, IsSome, sym, ◌∙◌, ap, subst, refl, arith, ◌++◌, true≢false, ◌+◌, None, take, length, get_or}
 use Rattle.std.proofs.lemmas.List.{take_more}
 use Rattle.std.proofs.lemmas.Option.{slice_get_within, slice_get-get_or}
-use Rattle.linear_forms.specs.declared.form.VarId.{VarId}
+use Rattle.logic_meaning.specs.declared.form.VarId.{VarId}
 use Rattle.linear_forms.specs.Linear.{term_of}
 use Rattle.std.proofs.Math.IntN.{pos}
 use Rattle.std.specs.Prelude.{◌↔◌, Option, option_map, ℤ}
@@ -12,14 +12,14 @@ use Rattle.std.specs.Cmp.{unsigned_Decides}
 use Rattle.std.specs.declared.alloc.Global.{Global}
 use Rattle.std.specs.declared.vec.Vec.{Vec}
 use Rattle.std.proofs.lemmas.Bool.{cases_eq}
-use Rattle.formula_meaning.specs.Some.{SomeOf}
-use Rattle.formula_meaning.specs.Every.{FreeInSome}
-use Rattle.formula_meaning.specs.Atom.{Mentions}
-use Rattle.formula_meaning.specs.Form.{Form, Term, multiple, coefficient}
-use Rattle.formula_meaning.specs.Sorted.{AllAbove, IsRising, AllNonzero, IsSorted}
-use Rattle.formula_meaning.specs.Tree.{Tree, IsFree}
-use Rattle.formula_meaning.proofs.Sorted.{here, elsewhere}
-use Rattle.qe_syntax.proofs.EntryLists.{some_left, some_right, some_split, some_one}
+use Rattle.logic_meaning.specs.Some.{SomeOf}
+use Rattle.logic_meaning.specs.Every.{FreeInSome}
+use Rattle.logic_meaning.specs.Atom.{Mentions}
+use Rattle.logic_meaning.specs.Form.{Form, Term, multiple, coefficient}
+use Rattle.logic_meaning.specs.Sorted.{AllAbove, IsRising, AllNonzero, IsSorted}
+use Rattle.logic_meaning.specs.Tree.{Tree, IsFree}
+use Rattle.formula_laws.proofs.Sorted.{here, elsewhere}
+use Rattle.written_syntax.proofs.EntryLists.{some_left, some_right, some_split, some_one}
 use Rattle.formula_tree.specs.declared.shape.Shape.{Shape}
 use Rattle.formula_tree.specs.Trees.{members}
 use Rattle.formula_tree.specs.Shapes.{tree_over, AllIds}

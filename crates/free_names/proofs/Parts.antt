@@ -2,14 +2,14 @@
 use Rattle.std.proofs.Common.{◌≡◌, ℕ, List, Bool, true, false, ◌||◌, Option, Some, None, sym, ◌∙◌, ap, subst, true≢false}
 use Rattle.std.specs.Prelude.{unwrap_or, IsTrue, ◌↔◌}
 use Rattle.std.specs.Bool.{MatchBool}
-use Rattle.formula_meaning.specs.Formula.{Yes, No}
-use Rattle.formula_meaning.specs.Tree.{Tree, IsFree}
-use Rattle.qe_syntax.specs.Trees.{Bound}
-use Rattle.qe_syntax.proofs.NameOrder.{by_at}
-use Rattle.formula_tree.specs.Bindings.{bound_to}
-use Rattle.resolved_formulas.specs.Causes.{atom_in_place}
-use Rattle.formula_tree.specs.Quantified.{has_quantifier}
-use Rattle.resolved_formulas.specs.Resolving.{BoundTrees, MentionsNumber}
+use Rattle.logic_meaning.specs.Formula.{Yes, No}
+use Rattle.logic_meaning.specs.Tree.{Tree, IsFree}
+use Rattle.language_meaning.specs.Trees.{Bound}
+use Rattle.written_syntax.proofs.NameOrder.{by_at}
+use Rattle.logic_meaning.specs.Bindings.{bound_to}
+use Rattle.language_meaning.specs.Causes.{atom_in_place}
+use Rattle.logic_meaning.specs.Quantified.{has_quantifier}
+use Rattle.language_meaning.specs.Resolving.{BoundTrees, MentionsNumber}
 use Rattle.free_names.specs.Scopes.{AreAmong, IsIn}
 use Rattle.free_names.specs.Missing.{AreMissing}
 use Rattle.free_names.proofs.Scopes.{or_neither, or_parts, or_first}

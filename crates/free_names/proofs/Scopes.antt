@@ -3,13 +3,13 @@ use Rattle.std.proofs.Common.{◌≡◌, ◌⊎◌, inl, inr, ⊎_elim, ℕ, Lis
 use Rattle.std.proofs.lemmas.Bool.{false≢true}
 use Rattle.std.specs.Ordering.{nat_cmp}
 use Rattle.std.specs.BTreeMap.{is_at}
-use Rattle.formula_meaning.specs.Every.{Free}
-use Rattle.formula_meaning.specs.Formula.{Yes, No, One, Not, And, Or, Impl, Repl, Equiv, Ex, All}
-use Rattle.formula_meaning.specs.Replaced.{replaced}
-use Rattle.qe_syntax.specs.Trees.{WrittenAtom, FormulaTree}
-use Rattle.qe_syntax.specs.Valued.{prefix_of, matrix_of}
-use Rattle.qe_syntax.proofs.NameOrder.{by_at}
-use Rattle.qe_syntax.proofs.EntryLists.{some_left, some_right, some_split, some_one}
+use Rattle.logic_meaning.specs.Every.{Free}
+use Rattle.logic_meaning.specs.Formula.{Yes, No, One, Not, And, Or, Impl, Repl, Equiv, Ex, All}
+use Rattle.logic_meaning.specs.Replaced.{replaced}
+use Rattle.language_meaning.specs.Trees.{WrittenAtom, FormulaTree}
+use Rattle.written_syntax.specs.Valued.{prefix_of, matrix_of}
+use Rattle.written_syntax.proofs.NameOrder.{by_at}
+use Rattle.written_syntax.proofs.EntryLists.{some_left, some_right, some_split, some_one}
 use Rattle.free_names.specs.Scopes.{AreAmong, IsIn, IsOpened, IsClosed}
 use Rattle.free_names.proofs.Lists.{Puts, put_there, put_keeps, put_only, at_same, same_at}
 

@@ -2,15 +2,15 @@
 use Rattle.std.specs.Prelude.{ℕ, List, Bool, ◌||◌, ◌⊎◌}
 use Rattle.std.specs.Ordering.{nat_cmp}
 use Rattle.std.specs.BTreeSet.{BTreeSet, contains}
-use Rattle.formula_meaning.specs.Every.{FreeInSome}
-use Rattle.formula_meaning.specs.Formula.{One}
-use Rattle.formula_meaning.specs.Replaced.{replaced, all_replaced}
-use Rattle.qe_syntax.specs.Trees.{FormulaTree, FormulaTrees}
+use Rattle.logic_meaning.specs.Every.{FreeInSome}
+use Rattle.logic_meaning.specs.Formula.{One}
+use Rattle.logic_meaning.specs.Replaced.{replaced, all_replaced}
+use Rattle.language_meaning.specs.Trees.{FormulaTree, FormulaTrees}
 use Rattle.formula_tree.specs.declared.shape.Shape.{Shape}
-use Rattle.resolved_formulas.specs.Causes.{atom_in_place}
-use Rattle.resolved_formulas.specs.Resolving.{IsFreeInPlace, MentionsNumber}
-use Rattle.formula_tree.specs.Names.{place}
-use Rattle.formula_tree.specs.Quantified.{has_quantifier}
+use Rattle.language_meaning.specs.Causes.{atom_in_place}
+use Rattle.language_meaning.specs.Resolving.{IsFreeInPlace, MentionsNumber}
+use Rattle.logic_meaning.specs.Names.{place}
+use Rattle.logic_meaning.specs.Quantified.{has_quantifier}
 use Rattle.formula_store.specs.declared.id.FormulaId.{FormulaId}
 use Rattle.formula_store.specs.Nodes.{tree}
 use Rattle.formula_resolving.specs.BoundIds.{answered_trees}

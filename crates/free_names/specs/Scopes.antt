@@ -1,6 +1,6 @@
 -- Searches for something that does not pass a test, and sets of numbers that grow and shrink with a scope.
 use Rattle.std.specs.Prelude.{◌≡◌, ◌⊎◌, ℕ, List, Bool, true, false}
-use Rattle.formula_meaning.specs.Some.{SomeOf}
+use Rattle.logic_meaning.specs.Some.{SomeOf}
 
 -- whether all that have P pass the test; where they don't, one does not
 abbrev pub AreAmong : {X : Type 0} → (X → Type 0) → (X → Bool) → Bool → Type 0

@@ -5,6 +5,5 @@ mod missing;
 mod quantified;
 mod valued;
 
-pub use formula_resolving::StaticError;
 pub use quantified::is_quantified;
 pub use valued::is_valued;

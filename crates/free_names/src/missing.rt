@@ -4,11 +4,11 @@ ghost use Rattle.std.specs.Prelude.{◌≡◌, ◌⊎◌, ℕ, pos, [], ◌∷�
 ghost use Rattle.std.specs.List.{AllByRecursion};
 ghost use Rattle.std.specs.Ordering.{nat_cmp};
 ghost use Rattle.std.specs.BTreeSet.{contains};
-ghost use Rattle.formula_meaning.specs.Some.{SomeOf};
-ghost use Rattle.formula_meaning.specs.Form.{coefficient};
-ghost use Rattle.formula_meaning.specs.Tree.{IsFree};
-ghost use Rattle.formula_meaning.specs.Atom.{Mentions};
-ghost use Rattle.atom_normal.specs.Atoms.{atom_of};
+ghost use Rattle.logic_meaning.specs.Some.{SomeOf};
+ghost use Rattle.logic_meaning.specs.Form.{coefficient};
+ghost use Rattle.logic_meaning.specs.Tree.{IsFree};
+ghost use Rattle.logic_meaning.specs.Atom.{Mentions};
+ghost use Rattle.normal_atoms.specs.Atoms.{atom_of};
 ghost use Rattle.formula_tree.specs.declared.shape.Shape.{Shape};
 ghost use Rattle.formula_tree.specs.Shapes.{AllIds};
 ghost use Rattle.formula_store.specs.declared.id.FormulaId.{FormulaId};
@@ -17,10 +17,10 @@ ghost use Rattle.formula_store.specs.Order.{IsOrder};
 ghost use Rattle.free_names.specs.Scopes.{IsIn};
 ghost use Rattle.free_names.specs.Missing.{AreMissing, IsThere, IsSound, numbers_at};
 
-use atom_normal::Atom;
 use formula_store::{FormulaId, Store};
 use formula_tree::Shape;
 use linear_forms::Linear;
+use normal_atoms::Atom;
 use std::alloc::{AllocError, Global};
 use std::collections::{BTreeSet, HashMap};
 

@@ -2,12 +2,12 @@
 
 ghost use Rattle.std.specs.Prelude.{◌≡◌, ◌≤◌, ◌<◌, ◌+◌, ◌||◌, ℕ, List, length, map, false};
 ghost use Rattle.std.specs.List.{AllByRecursion};
-ghost use Rattle.formula_meaning.specs.Replaced.{all_replaced};
-ghost use Rattle.qe_syntax.specs.Trees.{Bound};
-ghost use Rattle.qe_syntax.specs.Holes.{command_count, inner_name, all_of};
-ghost use Rattle.qe_syntax.specs.CodeTrees.{whole_formula, named_tree, inner_of};
-ghost use Rattle.resolved_formulas.specs.Causes.{atom_in_place};
-ghost use Rattle.formula_tree.specs.Quantified.{has_quantifier, some_quantifier};
+ghost use Rattle.logic_meaning.specs.Replaced.{all_replaced};
+ghost use Rattle.language_meaning.specs.Trees.{Bound};
+ghost use Rattle.language_meaning.specs.Holes.{command_count, inner_name, all_of};
+ghost use Rattle.written_syntax.specs.CodeTrees.{whole_formula, named_tree, inner_of};
+ghost use Rattle.language_meaning.specs.Causes.{atom_in_place};
+ghost use Rattle.logic_meaning.specs.Quantified.{has_quantifier, some_quantifier};
 ghost use Rattle.formula_store.specs.declared.id.FormulaId.{FormulaId};
 ghost use Rattle.formula_store.specs.Nodes.{tree, IsId};
 ghost use Rattle.formula_resolving.specs.BoundIds.{AreIds, answered_trees};
@@ -16,7 +16,8 @@ ghost use Rattle.free_names.specs.Places.{is_quantified_here};
 use formula_resolving::bound_formula;
 use formula_store::{FormulaId, Store};
 use formula_tree::Bindings;
-use qe_syntax::{Formula, Name};
+use logic_meaning::Name;
+use written_syntax::Formula;
 
 /// Whether a quantifier stands in the formula, with the bound formulas and the answers in their places. `inner` has the
 /// answers of the commands inside the formula, in the order of the text. It takes no memory.
@@ -36,7 +37,7 @@ pub fn is_quantified(
 }
 
 /// Whether a quantifier stands in the formula, with the answers from the place `taken` on. Where none does, these are taken.
-#[tactic(auto, using(qe_syntax::proofs::TreeEquations::trees, qe_syntax::proofs::TreeEquations::inners, qe_syntax::proofs::TreeEquations::nameds))]
+#[tactic(auto, using(written_syntax::proofs::TreeEquations::trees, written_syntax::proofs::TreeEquations::inners, written_syntax::proofs::TreeEquations::nameds))]
 #[cycle(quantified)]
 fn in_formula(
     formula: &Formula,

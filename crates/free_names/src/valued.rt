@@ -5,17 +5,17 @@ ghost use Rattle.std.specs.Bool.{MatchBool};
 ghost use Rattle.std.specs.List.{AllByRecursion};
 ghost use Rattle.std.specs.Ordering.{nat_cmp};
 ghost use Rattle.std.specs.BTreeSet.{contains, IsSameSet};
-ghost use Rattle.formula_meaning.specs.Tree.{IsFree};
-ghost use Rattle.qe_syntax.specs.Trees.{terms_of, Bound};
-ghost use Rattle.qe_syntax.specs.Holes.{command_count, inner_name, all_of};
-ghost use Rattle.qe_syntax.specs.CodeTrees.{term_tree, whole_formula, formula_tree, named_tree, inner_of};
-ghost use Rattle.qe_syntax.specs.Value.{HasName, HaveName};
-ghost use Rattle.qe_syntax.specs.Valued.{prefix_of, matrix_of, IsUnquantified};
-ghost use Rattle.resolved_formulas.specs.Resolving.{IsFreeInPlace, MentionsNumber};
-ghost use Rattle.formula_tree.specs.Names.{place};
+ghost use Rattle.logic_meaning.specs.Tree.{IsFree};
+ghost use Rattle.language_meaning.specs.Trees.{terms_of, Bound};
+ghost use Rattle.language_meaning.specs.Holes.{command_count, inner_name, all_of};
+ghost use Rattle.written_syntax.specs.CodeTrees.{term_tree, whole_formula, formula_tree, named_tree, inner_of};
+ghost use Rattle.language_meaning.specs.Value.{HasName, HaveName};
+ghost use Rattle.written_syntax.specs.Valued.{prefix_of, matrix_of, IsUnquantified};
+ghost use Rattle.language_meaning.specs.Resolving.{IsFreeInPlace, MentionsNumber};
+ghost use Rattle.logic_meaning.specs.Names.{place};
 ghost use Rattle.formula_store.specs.Nodes.{tree, IsId};
 ghost use Rattle.formula_resolving.specs.BoundIds.{AreIds, answered_trees};
-ghost use Rattle.free_names.specs.Entries.{HasEntryAt};
+ghost use Rattle.language_meaning.specs.Entries.{HasEntryAt};
 ghost use Rattle.free_names.specs.Missing.{IsSound};
 ghost use Rattle.free_names.specs.Places.{IsFreeHere, IsFreeInEither, AreFreeHere, in_scope, name_in_scope};
 ghost use Rattle.free_names.specs.Scopes.{AreAmong, IsIn, IsOpened, IsClosed};
@@ -24,9 +24,11 @@ use crate::missing::{Table, look_into, numbers};
 use formula_resolving::bound_formula;
 use formula_store::{FormulaId, Store};
 use formula_tree::{Bindings, Names};
-use qe_syntax::{Formula, Name, PointEntry, Term};
+use language_meaning::PointEntry;
+use logic_meaning::Name;
 use std::alloc::{AllocError, Global};
 use std::collections::{BTreeSet, HashMap};
+use written_syntax::{Formula, Term};
 
 /// What a formula is searched with: the numbers that have an entry, what names stand for, and the answers of the commands
 /// inside the formula in the order of the text.
@@ -98,7 +100,7 @@ fn is_in_scope(around: &Around<'_>, name: &Name, opened: &BTreeSet<usize>) -> bo
 }
 
 /// Whether the names of a term are in scope.
-#[tactic(auto, using(qe_syntax::proofs::TreeEquations::trees))]
+#[tactic(auto, using(written_syntax::proofs::TreeEquations::trees))]
 #[cycle(terms)]
 fn in_term(around: &Around<'_>, term: &Term, opened: &BTreeSet<usize>) -> bool
     ensures { AreAmong (HasName (term_tree term.now)) (name_in_scope around.now.names.now around.now.valued.now opened.now) result }
@@ -130,7 +132,7 @@ fn in_terms(around: &Around<'_>, terms: &[Term], opened: &BTreeSet<usize>) -> bo
 }
 
 /// Puts in the numbers of the quantifiers with which the formula begins, and answers those that were not there.
-#[tactic(auto, using(qe_syntax::proofs::TreeEquations::trees))]
+#[tactic(auto, using(written_syntax::proofs::TreeEquations::trees))]
 fn open_scope(
     around: &Around<'_>,
     formula: &Formula,
@@ -172,7 +174,7 @@ fn are_in(numbers: &[usize], opened: &BTreeSet<usize>) -> bool
 }
 
 /// The formula after the quantifiers with which this one begins.
-#[tactic(auto, using(qe_syntax::proofs::TreeEquations::trees))]
+#[tactic(auto, using(written_syntax::proofs::TreeEquations::trees))]
 fn after_quantifiers(formula: &Formula) -> &Formula
     ensures matrix { formula_tree result.now ≡ matrix_of (formula_tree formula.now) }
     ensures named { (k : ℕ) → named_tree k result.now ≡ matrix_of (named_tree k formula.now) }
@@ -266,7 +268,7 @@ fn in_formula(
 }
 
 /// Whether the free numbers of a formula that begins with no quantifier are in scope. The scope is as before.
-#[tactic(auto, using(qe_syntax::proofs::TreeEquations::trees, qe_syntax::proofs::TreeEquations::inners, qe_syntax::proofs::TreeEquations::nameds))]
+#[tactic(auto, using(written_syntax::proofs::TreeEquations::trees, written_syntax::proofs::TreeEquations::inners, written_syntax::proofs::TreeEquations::nameds))]
 #[cycle(formulas)]
 fn in_matrix(
     around: &Around<'_>,

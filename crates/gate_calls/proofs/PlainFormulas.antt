@@ -2,17 +2,17 @@
 use Rattle.std.proofs.Common.{◌≡◌, ◌≤◌, ap, subst, arith}
 use Rattle.std.specs.declared.boxed.Box.{Box}
 use Rattle.std.specs.declared.alloc.Global.{Global}
-use Rattle.qe_syntax.specs.declared.tree.Formula.{Formula}
-use Rattle.qe_syntax.specs.Holes.{alone, command_count}
-use Rattle.qe_syntax.specs.Writable.{IsWritableFormula}
-use Rattle.qe_syntax.specs.CodeTrees.{formula_tree, named_tree, inner_of, whole_formula}
-use Rattle.qe_syntax.proofs.Alone.{still, no_hole}
-use Rattle.statement_syntax.specs.declared.statement.Command.{Command}
-use Rattle.statement_syntax.specs.declared.statement.Command.TheVariants as command
-use Rattle.statement_syntax.specs.declared.statement.Action.TheVariants as action
-use Rattle.statement_syntax.specs.declared.statement.Statement.{Statement}
-use Rattle.statement_syntax.specs.CodeTrees.{statement_tree, whole_command, whole_action}
-use Rattle.statement_syntax.specs.Writable.{IsWritable, IsActionOver, IsCommandOver, IsFormulaBeside}
+use Rattle.written_syntax.specs.declared.tree.Formula.{Formula}
+use Rattle.language_meaning.specs.Holes.{alone, command_count}
+use Rattle.written_syntax.specs.Writable.{IsWritableFormula}
+use Rattle.written_syntax.specs.CodeTrees.{formula_tree, named_tree, inner_of, whole_formula}
+use Rattle.written_syntax.proofs.Alone.{still, no_hole}
+use Rattle.written_syntax.specs.declared.statement.Command.{Command}
+use Rattle.written_syntax.specs.declared.statement.Command.TheVariants as command
+use Rattle.written_syntax.specs.declared.statement.Action.TheVariants as action
+use Rattle.written_syntax.specs.declared.statement.Statement.{Statement}
+use Rattle.written_syntax.specs.StatementSyntaxCodeTrees.{statement_tree, whole_command, whole_action}
+use Rattle.written_syntax.specs.StatementSyntaxWritable.{IsWritable, IsActionOver, IsCommandOver, IsFormulaBeside}
 
 -- a formula whose names can be written has no place for an answer
 pub no_places : (f : Formula) → IsWritableFormula (formula_tree f) → command_count (inner_of f) ≤ 0

@@ -1,8 +1,8 @@
 -- Formulas of a store into which a test point of the ordered fields can be put.
 use Rattle.std.specs.Prelude.{List}
-use Rattle.formula_meaning.specs.Context.{Fields}
-use Rattle.formula_meaning.specs.Plain.{IsPlain}
-use Rattle.formula_meaning.specs.Equivalence.{InContext}
+use Rattle.logic_meaning.specs.Context.{Fields}
+use Rattle.logic_meaning.specs.Plain.{IsPlain}
+use Rattle.formula_laws.specs.Equivalence.{InContext}
 use Rattle.formula_tree.specs.declared.shape.Shape.{Shape}
 use Rattle.formula_store.specs.declared.id.FormulaId.{FormulaId}
 use Rattle.formula_store.specs.Nodes.{tree, IsId}

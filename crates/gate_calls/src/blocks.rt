@@ -1,17 +1,17 @@
 //! Blocks of `ex` over formulas without quantifiers, branch by branch, with what is left of them as text.
 
 ghost use Rattle.std.specs.Prelude.{◌≡◌, All, IfSome};
-ghost use Rattle.formula_meaning.specs.StandsOnce.{StandsOnce};
+ghost use Rattle.formula_laws.specs.StandsOnce.{StandsOnce};
 ghost use Rattle.formula_store.specs.Nodes.{IsId};
 ghost use Rattle.branch_rounds.specs.Branches.{numbers};
 
 use crate::reading::{LIMIT, tidy_id};
 use crate::shared::unfolded_text;
 use crate::writing::answers_text;
-use atom_normal::Context;
 use branch_rounds::{Branch, Budget, Work, block_branches};
 use formula_store::Store;
-use linear_forms::VarId;
+use logic_meaning::VarId;
+use normal_atoms::Context;
 use qe_parallel::OpenGate;
 use std::alloc::{AllocError, Global};
 use std::fmt::Write;

@@ -5,21 +5,20 @@ ghost use Rattle.formula_store.specs.Nodes.{IsId};
 
 use crate::reading::{LIMIT, form_of, formula_of};
 use crate::writing::{cases_text, sample_text, tree_text};
-use atom_normal::{Atom, Context, Rel};
 use formula_resolving::{PlainMaker, linearise};
 use formula_store::{FormulaId, Store, Unfold};
 use formula_tree::{Bindings, Names, Tree};
-use linear_forms::{Linear, Values, VarId};
-use plain_cases::cases_plain;
+use linear_forms::{Linear, Values};
+use logic_meaning::{Name, VarId};
+use normal_atoms::{Atom, Context, Rel};
 use plain_samples::sample_plain;
-use plain_truths::put_in;
-use qe_syntax::Name;
 use redlog_printer::formula_text;
 use redlog_reader::read_statement;
+use reference_engine::{cases_plain, put_in};
 use std::alloc::Global;
 
 /// The tree that a maker of plain trees keeps of the statement's formula.
-#[tactic(auto, using(qe_syntax::proofs::WritableLemmas::writable, crate::proofs::PlainFormulas::no_places))]
+#[tactic(auto, using(written_syntax::proofs::WritableLemmas::writable, crate::proofs::PlainFormulas::no_places))]
 pub(crate) fn plain_tree(alloc: Global, context: Context, statement: &str) -> Option<String> {
     let statement = read_statement(alloc, statement.as_bytes()).ok()?;
     let formula = formula_of(alloc, &statement)?;
@@ -31,7 +30,7 @@ pub(crate) fn plain_tree(alloc: Global, context: Context, statement: &str) -> Op
 }
 
 /// The id of the statement's formula over the ordered fields, in the store.
-#[tactic(auto, using(qe_syntax::proofs::WritableLemmas::writable, crate::proofs::PlainFormulas::no_places))]
+#[tactic(auto, using(written_syntax::proofs::WritableLemmas::writable, crate::proofs::PlainFormulas::no_places))]
 fn id_of(alloc: Global, statement: &str, names: &mut Names, store: &mut Store) -> Option<FormulaId>
     ensures { IfSome result (IsId store.new) }
 {

@@ -1,15 +1,14 @@
 //! Formulas eliminated by cases, with their case trees as text.
 
-ghost use Rattle.formula_meaning.specs.Some.{EachOf};
+ghost use Rattle.logic_meaning.specs.Some.{EachOf};
 ghost use Rattle.formula_store.specs.Nodes.{IsId};
 
 use crate::reading::{LIMIT, normal_id};
 use crate::shared::unfolded_text;
 use crate::writing::answers_text;
-use atom_normal::Context;
-use block_scheduler::{Limits, eliminate};
-use case_trees::{CaseTree, guards_together};
+use engine_answers::{CaseTree, Limits, eliminate, guards_together};
 use formula_store::Store;
+use normal_atoms::Context;
 use qe_parallel::OpenGate;
 use std::alloc::Global;
 use std::fmt::Write;

@@ -4,9 +4,9 @@ ghost use Rattle.std.specs.Prelude.{All};
 ghost use Rattle.formula_store.specs.Nodes.{IsId};
 
 use crate::blocks::{branches_of, first_names};
-use atom_normal::Context;
 use branch_rounds::Branch;
 use formula_store::Store;
+use normal_atoms::Context;
 use std::alloc::Global;
 use std::fmt::Write;
 use std::thread::Threads;

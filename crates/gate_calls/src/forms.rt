@@ -1,7 +1,7 @@
 //! Forms and atoms as texts in which names are numbers: `v0`, `v1`.
 
-use atom_normal::{Atom, Rel};
 use linear_forms::Linear;
+use normal_atoms::{Atom, Rel};
 use std::alloc::{AllocError, Global};
 
 /// The text of an atom.

@@ -1,15 +1,15 @@
 //! The guards of cases as one formula, with it as text.
 
 ghost use Rattle.std.specs.Prelude.{◌≡◌};
-ghost use Rattle.formula_meaning.specs.Some.{EachOf};
+ghost use Rattle.logic_meaning.specs.Some.{EachOf};
 ghost use Rattle.formula_tree.specs.Makers.{Keeps};
 ghost use Rattle.formula_store.specs.Nodes.{tree, IsId};
 
 use crate::points::A;
 use crate::shared::{B, compared, unfolded_text};
-use atom_normal::Rel;
-use case_trees::{Case, CaseTree, guards_together};
+use engine_answers::{Case, CaseTree, guards_together};
 use formula_store::{FormulaId, Store};
+use normal_atoms::Rel;
 use std::alloc::Global;
 
 /// The guards together of no case, of the case `x - a > 0`, and of that and the case `x - b < 0`.

@@ -2,9 +2,9 @@
 
 use crate::points::{A, X};
 use crate::shared::compared;
-use atom_normal::Rel;
 use formula_store::Store;
 use linear_opt::{Least, least_value};
+use normal_atoms::Rel;
 use std::alloc::Global;
 
 /// The least `x` with `x - a >= 0`, where `a` is 0.

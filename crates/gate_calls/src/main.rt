@@ -21,7 +21,7 @@ mod smt;
 mod writing;
 
 use crate::calls::{cases, ids, plain_tree, printed_atom, sample, unfolding};
-use atom_normal::Context;
+use normal_atoms::Context;
 use std::io;
 use std::thread::Threads;
 

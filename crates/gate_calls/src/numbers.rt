@@ -1,9 +1,10 @@
 //! Numbers at the limit, forms at points, and atoms.
 
 use crate::forms::{atom_text, form_text};
-use atom_normal::{Atom, Rel, negate, truth};
 use exact_numbers::{compare_fractions, gcd, lcm, product, sum};
-use linear_forms::{Linear, Values, VarId};
+use linear_forms::{Linear, Values};
+use logic_meaning::VarId;
+use normal_atoms::{Atom, Rel, negate, truth};
 use std::alloc::Global;
 use std::cmp::Ordering;
 

@@ -1,16 +1,19 @@
 //! Test points of both theories, and atoms put at them, with what they give as text.
 
 ghost use Rattle.std.specs.Prelude.{IfSome};
-ghost use Rattle.elimination_theory.specs.FieldsSubstitution.{IsFieldPlace};
-ghost use Rattle.elimination_theory.specs.IntegerPlace.{IsIntegerPlace};
+ghost use Rattle.logic_meaning.specs.FieldsSubstitution.{IsFieldPlace};
+ghost use Rattle.logic_meaning.specs.IntegerPlace.{IsIntegerPlace};
 ghost use Rattle.test_points.specs.Points.{place_of, IsTestPoint};
 
 use crate::forms::{atom_text, form_text};
-use atom_normal::{Atom, Normal, Rel};
-use cooper_periods::{guard, integer_points, period, substitute_integer};
-use linear_forms::{Linear, VarId};
+use linear_forms::Linear;
+use logic_meaning::{Side, VarId};
+use normal_atoms::{Atom, Normal, Rel};
 use std::alloc::{AllocError, Global};
-use test_points::{Place, Side, TestPoint, field_points, substitute_field};
+use test_points::{
+    Place, TestPoint, field_points, guard, integer_points, period, substitute_field,
+    substitute_integer,
+};
 
 pub(crate) const A: VarId = VarId { number: 0 };
 

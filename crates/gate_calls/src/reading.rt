@@ -1,28 +1,26 @@
 //! Formulas of statements, read on their own.
 
 ghost use Rattle.std.specs.Prelude.{IfSome};
-ghost use Rattle.formula_meaning.specs.Every.{Every};
-ghost use Rattle.atom_normal.specs.Atoms.{context_of};
-ghost use Rattle.atom_normal.specs.NormalForm.{IsNormal};
-ghost use Rattle.elimination_reference.specs.Theorems.{IsTidy};
+ghost use Rattle.logic_meaning.specs.Every.{Every};
+ghost use Rattle.normal_atoms.specs.Atoms.{context_of};
+ghost use Rattle.logic_meaning.specs.NormalForm.{IsNormal};
+ghost use Rattle.elimination_theory.specs.Theorems.{IsTidy};
 ghost use Rattle.formula_tree.specs.Trees.{tree_of};
 ghost use Rattle.formula_store.specs.Nodes.{tree, IsId};
 ghost use Rattle.nnf_trees.specs.Nnfs.{HasModulus};
-ghost use Rattle.qe_syntax.specs.Writable.{IsWritableFormula};
-ghost use Rattle.statement_syntax.specs.Writable.{IsWritable};
-ghost use Rattle.statement_syntax.specs.CodeTrees.{statement_tree};
-ghost use Rattle.qe_syntax.specs.CodeTrees.{formula_tree};
+ghost use Rattle.written_syntax.specs.Writable.{IsWritableFormula};
+ghost use Rattle.written_syntax.specs.StatementSyntaxWritable.{IsWritable};
+ghost use Rattle.written_syntax.specs.StatementSyntaxCodeTrees.{statement_tree};
+ghost use Rattle.written_syntax.specs.CodeTrees.{formula_tree};
 
-use atom_normal::Context;
-use formula_resolving::linearise;
+use formula_resolving::{commands_inside, linearise};
 use formula_store::{FormulaId, Store};
 use formula_tree::{Bindings, Names, Tree};
-use inner_commands::commands_inside;
-use qe_syntax::Formula;
+use normal_atoms::Context;
 use redlog_reader::read_statement;
-use shared_elimination::{eliminate_shared, unfolded_form};
-use statement_syntax::{Action, Command, Statement};
+use reference_engine::{eliminate_shared, unfolded_form};
 use std::alloc::Global;
+use written_syntax::{Action, Command, Formula, Statement};
 
 /// The limit of nodes of each call.
 pub(crate) const LIMIT: u64 = 1_000_000;
@@ -68,7 +66,7 @@ fn resolved_form(alloc: Global, context: Context, formula: &Formula) -> Option<T
 }
 
 /// The id of the formula, whose names have numbers in the order of the text.
-#[tactic(auto, using(qe_syntax::proofs::WritableLemmas::writable, crate::proofs::PlainFormulas::no_places))]
+#[tactic(auto, using(written_syntax::proofs::WritableLemmas::writable, crate::proofs::PlainFormulas::no_places))]
 fn resolved_id(
     alloc: Global,
     context: Context,

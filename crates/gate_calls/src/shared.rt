@@ -1,18 +1,18 @@
 //! Test points put into shared formulas, with what they give as text.
 
 ghost use Rattle.std.specs.Prelude.{◌≤◌, length, IfSome};
-ghost use Rattle.elimination_theory.specs.FieldsSubstitution.{IsFieldPlace};
+ghost use Rattle.logic_meaning.specs.FieldsSubstitution.{IsFieldPlace};
 ghost use Rattle.formula_store.specs.Nodes.{IsId};
 ghost use Rattle.test_points.specs.Points.{place_of, IsTestPoint};
 ghost use Rattle.gate_calls.specs.Taking.{Takes, StillTakes};
 
 use crate::points::{A, X, above_a};
 use crate::writing::tree_text;
-use atom_normal::{Atom, Context, Rel};
-use formula_meaning::Junction;
 use formula_store::{Delta, FormulaId, Store};
 use formula_tree::{Ids, Maker, Shape};
-use linear_forms::{Linear, VarId};
+use linear_forms::Linear;
+use logic_meaning::{Junction, VarId};
+use normal_atoms::{Atom, Context, Rel};
 use qe_parallel::OpenGate;
 use std::alloc::Global;
 use std::thread::Threads;

@@ -1,6 +1,7 @@
 //! Commands and tokens of SMT-LIB scripts, as text.
 
-use smt_tokens::{SmtCut, SmtLexeme, SmtToken, lexemes, smt_cuts};
+use smt_language::{SmtCut, SmtLexeme, SmtToken};
+use smt_tokens::{lexemes, smt_cuts};
 use std::alloc::Global;
 
 /// Parentheses in a string, in bars and in a comment, tokens outside all parentheses, and a parenthesis that nothing closes.

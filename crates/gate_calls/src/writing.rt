@@ -4,8 +4,8 @@ use crate::forms::{atom_text, form_text};
 use crate::points::place_text;
 use exact_numbers::Fraction;
 use formula_tree::Tree;
-use linear_forms::VarId;
-use plain_cases::PrintedCase;
+use logic_meaning::VarId;
+use reference_engine::PrintedCase;
 use std::alloc::{AllocError, Global};
 use test_points::TestPoint;
 

@@ -9,7 +9,8 @@ mod text;
 
 use crate::meeting::{ELIMINATION, GRID, at_once};
 use crate::row::Row;
-use redlog_run::{Status, run_process};
+use program_meaning::Status;
+use redlog_run::run_process;
 use std::fs::Files;
 use std::io;
 use std::process::ExitCode;

@@ -1,8 +1,9 @@
 //! Whether a statement is worked on by two threads at once.
 
+use program_meaning::Status;
 use qe_io::{MemorySink, MemorySource};
 use qe_parallel::Gate;
-use redlog_run::{Status, run_gated};
+use redlog_run::run_gated;
 use std::alloc::AllocError;
 use std::sync::atomic::{AtomicBool, Ordering};
 use std::thread::Threads;

@@ -2,7 +2,7 @@
 
 use crate::ends::{Answer, Ends};
 use crate::text::{add_line, add_numbered, add_repeated, told};
-use redlog_run::Status;
+use program_meaning::Status;
 use std::alloc::{AllocError, Global};
 use std::fs::{self, Files};
 use std::io;

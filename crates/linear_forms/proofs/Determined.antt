@@ -2,12 +2,12 @@
 use Rattle.std.proofs.Common.{◌≡◌, ◌<◌, ℕ, zero, suc, Bool, true, false, List, [], ◌∷◌, Some, sym, ◌∙◌, subst, refl, arith, nat_eq, if◌then◌else◌}
 use Rattle.std.proofs.Math.IntN.{ℤ, pos}
 use Rattle.std.specs.Prelude.{slice_get}
-use Rattle.formula_meaning.specs.Form.{Form, Term, multiple, others, coefficient, without}
-use Rattle.formula_meaning.specs.Sorted.{AllAbove, IsRising}
-use Rattle.linear_forms.specs.Terms.{AllInLimit}
+use Rattle.logic_meaning.specs.Form.{Form, Term, multiple, others, coefficient, without}
+use Rattle.logic_meaning.specs.Sorted.{AllAbove, IsRising}
+use Rattle.logic_meaning.specs.Terms.{AllInLimit}
 use Rattle.linear_forms.specs.Combinations.{IsLinear, IsCombination, IsQuotient}
-use Rattle.formula_meaning.proofs.Sorted.{here, elsewhere, sorted_determined, without_sorted}
-use Rattle.formula_meaning.proofs.FromExactNumbers.{cancel}
+use Rattle.formula_laws.proofs.Sorted.{here, elsewhere, sorted_determined, without_sorted}
+use Rattle.exact_numbers.proofs.Order.{cancel}
 
 -- ---- determined by the coefficients
 

@@ -7,13 +7,19 @@ use Rattle.std.specs.List.{AllZip}
 use Rattle.std.proofs.Math.Nat.{le-mul_of_pos_right}
 use Rattle.std.proofs.lemmas.List.{take_more}
 use Rattle.std.proofs.lemmas.Int.{ints, unsigned_abs-mul}
-use Rattle.formula_meaning.specs.FromExactNumbers.{InLimit, Divides, IsGcd, DividesAll, IsContent}
-use Rattle.formula_meaning.proofs.FromExactNumbers.{ring, mul_zero, divides_zero, exact_div, content_push, fits}
-use Rattle.formula_meaning.specs.Form.{Term, total, value, coefficient}
-use Rattle.linear_forms.specs.declared.form.VarId.{VarId}
+use Rattle.exact_numbers.specs.Limit.{InLimit}
+use Rattle.exact_numbers.specs.Divides.{Divides, IsGcd}
+use Rattle.exact_numbers.specs.Division.{DividesAll, IsContent}
+use Rattle.exact_numbers.proofs.Ring.{ring, mul_zero}
+use Rattle.exact_numbers.proofs.Divisibility.{divides_zero}
+use Rattle.exact_numbers.proofs.LeastMultiple.{exact_div}
+use Rattle.exact_numbers.proofs.Contents.{content_push}
+use Rattle.exact_numbers.proofs.Casts.{fits}
+use Rattle.logic_meaning.specs.Form.{Term, total, value, coefficient}
+use Rattle.logic_meaning.specs.declared.form.VarId.{VarId}
 use Rattle.linear_forms.specs.Linear.{term_of, terms_of, IsDivided}
-use Rattle.formula_meaning.specs.Sorted.{AllAbove, IsRising, AllNonzero}
-use Rattle.linear_forms.specs.Terms.{AllInLimit, coefficients}
+use Rattle.logic_meaning.specs.Sorted.{AllAbove, IsRising, AllNonzero}
+use Rattle.logic_meaning.specs.Terms.{AllInLimit, coefficients}
 use Rattle.linear_forms.specs.Combinations.{IsLinear, IsQuotient}
 use Rattle.linear_forms.proofs.Peeling.{terms_of-push}
 use Rattle.linear_forms.proofs.Totals.{one_at, multiple_total}

@@ -5,10 +5,10 @@ use Rattle.std.specs.Ordering.{int_eq}
 use Rattle.std.specs.List.{flat_map}
 use Rattle.std.specs.Hash.{slice, usize, i128}
 use Rattle.std.specs.Cmp.Lexicographic.{pointwise}
-use Rattle.linear_forms.specs.declared.form.VarId.{VarId}
+use Rattle.logic_meaning.specs.declared.form.VarId.{VarId}
 use Rattle.linear_forms.specs.Linear.{term_of, terms_of}
 use Rattle.linear_forms.specs.Equality.{term_eq, form_eq, term_writes}
-use Rattle.formula_meaning.specs.Form.{Form}
+use Rattle.logic_meaning.specs.Form.{Form}
 
 pub pairs_eq : (xs ys : List (VarId × ℤ)) → pointwise (λ p q. nat_eq p.0.number q.0.number && int_eq p.1 q.1) xs ys ≡ pointwise term_eq (terms_of xs) (terms_of ys)
 pairs_eq [] [] = refl

@@ -5,8 +5,8 @@ use Rattle.std.specs.Prelude.{◌*ℤ◌, unwrap_or}
 use Rattle.std.specs.List.{list_any}
 use Rattle.std.specs.Map.{lookup, keys_of}
 use Rattle.std.proofs.lemmas.Bool.Decides.{nat_tests}
-use Rattle.formula_meaning.specs.FromExactNumbers.{InLimit}
-use Rattle.formula_meaning.proofs.FromExactNumbers.{mul_zero}
+use Rattle.exact_numbers.specs.Limit.{InLimit}
+use Rattle.exact_numbers.proofs.Ring.{mul_zero}
 use Rattle.linear_forms.specs.Values.{Numbers, number_at, IsFiner}
 
 -- the names that are not left have their multiples

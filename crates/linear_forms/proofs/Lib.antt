@@ -14,5 +14,4 @@ pub mod Finer
 pub mod Reduced
 pub mod Quotients
 pub mod Residues
-pub mod FromExactNumbers
-pub mod FromFormulaMeaning
+pub mod FromFormulaLaws

@@ -3,14 +3,14 @@ use Rattle.std.proofs.Common.{◌≡◌, inl, inr, ℕ, List, [], ◌∷◌, ◌
 use Rattle.std.proofs.Math.IntN.{ℤ, pos, ◌+ℤ◌, ◌*ℤ◌}
 use Rattle.std.proofs.lemmas.Int.{ints}
 use Rattle.std.proofs.lemmas.Bool.{cases_eq}
-use Rattle.formula_meaning.specs.FromExactNumbers.{InLimit}
-use Rattle.formula_meaning.proofs.FromExactNumbers.{ring, mul_zero, zero_mul, mul_one}
-use Rattle.formula_meaning.specs.Form.{Form, Term, total, multiple, coefficient, value}
-use Rattle.formula_meaning.specs.Sorted.{IsRising}
-use Rattle.linear_forms.specs.Terms.{PlaceWithin, PlacePasses}
+use Rattle.exact_numbers.specs.Limit.{InLimit}
+use Rattle.exact_numbers.proofs.Ring.{ring, mul_zero, zero_mul, mul_one}
+use Rattle.logic_meaning.specs.Form.{Form, Term, total, multiple, coefficient, value}
+use Rattle.logic_meaning.specs.Sorted.{IsRising}
+use Rattle.logic_meaning.specs.Terms.{PlaceWithin, PlacePasses}
 use Rattle.linear_forms.specs.Combinations.{IsCombination}
 use Rattle.linear_forms.specs.Merging.{IsNext, IsPeeled, IsHandled, IsMerged}
-use Rattle.formula_meaning.proofs.Sorted.{multiple_above}
+use Rattle.formula_laws.proofs.Sorted.{multiple_above}
 use Rattle.linear_forms.proofs.Totals.{one_at, multiple_total, one_at_same, one_at_other, total_push}
 use Rattle.linear_forms.proofs.Rising.{rising_push, nonzero_push, within_push, precede_push, precede_next}
 

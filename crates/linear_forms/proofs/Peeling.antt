@@ -1,11 +1,11 @@
 -- A name peeled off the front of a sorted list of pairs.
 use Rattle.std.proofs.Common.{◌≡◌, ◌≤◌, ℕ, List, [], ◌∷◌, ◌++◌, length, ap, refl, sym, subst, arith}
 use Rattle.std.proofs.Math.IntN.{ℤ, pos}
-use Rattle.linear_forms.specs.declared.form.VarId.{VarId}
+use Rattle.logic_meaning.specs.declared.form.VarId.{VarId}
 use Rattle.linear_forms.specs.Linear.{term_of, terms_of}
-use Rattle.formula_meaning.specs.Sorted.{AllAbove, IsRising}
+use Rattle.logic_meaning.specs.Sorted.{AllAbove, IsRising}
 use Rattle.linear_forms.specs.Merging.{FirstAtLeast, IsPeeled}
-use Rattle.formula_meaning.proofs.Sorted.{above_from_first}
+use Rattle.formula_laws.proofs.Sorted.{above_from_first}
 use Rattle.linear_forms.proofs.Rising.{peel_first, peel_none}
 
 pub peel_pair : (xs : List (VarId × ℤ)) (p : VarId × ℤ) (ps : List (VarId × ℤ)) (n : ℕ) → xs ≡ p ∷ ps → p.0.number ≡ n → IsRising (terms_of xs) → IsPeeled (terms_of xs) n p.1 (terms_of ps)

@@ -2,9 +2,9 @@
 use Rattle.std.proofs.Common.{◌≡◌, Result, Ok, Err, inr, Option, Some, None, MatchOption, subst, refl}
 use Rattle.std.proofs.Math.IntN.{ℤ, ◌+ℤ◌}
 use Rattle.std.specs.Result.{IsErr, IfOk}
-use Rattle.formula_meaning.specs.FromExactNumbers.{InLimit, checked}
-use Rattle.formula_meaning.proofs.FromExactNumbers.{match_checked}
-use Rattle.linear_forms.specs.Terms.{PlaceWithin, PlacePasses}
+use Rattle.exact_numbers.specs.Limit.{InLimit, checked}
+use Rattle.exact_numbers.proofs.Limits.{match_checked}
+use Rattle.logic_meaning.specs.Terms.{PlaceWithin, PlacePasses}
 
 -- both products are within the limit
 pub place_given : (o : Option ℤ) (p q : ℤ) → InLimit p → InLimit q → o ≡ checked (p +ℤ q) → MatchOption o (PlacePasses p q) (λ n. (n ≡ p +ℤ q) × PlaceWithin p q)

@@ -3,13 +3,17 @@ use Rattle.std.proofs.Common.{◌≡◌, ℕ, List, [], ◌∷◌, ap, sym, ◌�
 use Rattle.std.proofs.Math.IntN.{ℤ, pos, negsuc, ◌+ℤ◌, ◌*ℤ◌}
 use Rattle.std.specs.Prelude.{int_div}
 use Rattle.std.proofs.lemmas.Int.{ints}
-use Rattle.formula_meaning.specs.FromExactNumbers.{Divides, content_of, DividesAll, IsContent}
-use Rattle.formula_meaning.proofs.FromExactNumbers.{ring, mul_zero, mul_one, one_mul, mul_assoc, one_divides, divides_along, divides_trans, mul_divides_mul, cancel_divides, exact_div, content_is, content_unique}
-use Rattle.formula_meaning.specs.Point.{Point}
-use Rattle.formula_meaning.specs.Form.{Form, Term, total, multiple, value, scaled, scale}
-use Rattle.formula_meaning.specs.Sorted.{AllAbove, IsRising, AllNonzero, IsSorted}
-use Rattle.linear_forms.specs.Terms.{coefficients}
-use Rattle.linear_forms.specs.Reduction.{quotients, quotient}
+use Rattle.exact_numbers.specs.Divides.{Divides, content_of}
+use Rattle.exact_numbers.specs.Division.{DividesAll, IsContent}
+use Rattle.exact_numbers.proofs.Ring.{ring, mul_zero, mul_one, one_mul, mul_assoc}
+use Rattle.exact_numbers.proofs.Divisibility.{one_divides, divides_along, divides_trans, mul_divides_mul, cancel_divides}
+use Rattle.exact_numbers.proofs.LeastMultiple.{exact_div}
+use Rattle.exact_numbers.proofs.Contents.{content_is, content_unique}
+use Rattle.logic_meaning.specs.Point.{Point}
+use Rattle.logic_meaning.specs.Form.{Form, Term, total, multiple, value, scaled, scale}
+use Rattle.logic_meaning.specs.Sorted.{AllAbove, IsRising, AllNonzero, IsSorted}
+use Rattle.logic_meaning.specs.Terms.{coefficients}
+use Rattle.logic_meaning.specs.Reduction.{quotients, quotient}
 use Rattle.linear_forms.proofs.Reduced.{quotient_is}
 use Rattle.linear_forms.proofs.Totals.{one_at, multiple_total}
 

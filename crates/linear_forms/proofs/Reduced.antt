@@ -8,15 +8,18 @@ use Rattle.std.specs.Cmp.{signed_Decides}
 use Rattle.std.specs.List.{AllZip}
 use Rattle.std.specs.Ordering.{int_eq}
 use Rattle.std.proofs.lemmas.Int.{ints}
-use Rattle.formula_meaning.specs.FromExactNumbers.{InLimit, residue_of}
-use Rattle.formula_meaning.proofs.FromExactNumbers.{cancel, exact_div, residue_not_negative, residue_below}
-use Rattle.formula_meaning.specs.Form.{Form, Term}
-use Rattle.linear_forms.specs.declared.form.VarId.{VarId}
+use Rattle.exact_numbers.specs.Limit.{InLimit}
+use Rattle.exact_numbers.specs.Divides.{residue_of}
+use Rattle.exact_numbers.proofs.Order.{cancel}
+use Rattle.exact_numbers.proofs.LeastMultiple.{exact_div}
+use Rattle.exact_numbers.proofs.Floor.{residue_not_negative, residue_below}
+use Rattle.logic_meaning.specs.Form.{Form, Term}
+use Rattle.logic_meaning.specs.declared.form.VarId.{VarId}
 use Rattle.linear_forms.specs.Linear.{term_of, terms_of, IsDivided}
-use Rattle.formula_meaning.specs.Sorted.{AllAbove, IsRising, AllNonzero, IsSorted}
-use Rattle.linear_forms.specs.Terms.{AllInLimit}
+use Rattle.logic_meaning.specs.Sorted.{AllAbove, IsRising, AllNonzero, IsSorted}
+use Rattle.logic_meaning.specs.Terms.{AllInLimit}
 use Rattle.linear_forms.specs.Combinations.{IsLinear}
-use Rattle.linear_forms.specs.Reduction.{quotients, quotient, residues, residue_form}
+use Rattle.logic_meaning.specs.Reduction.{quotients, quotient, residues, residue_form}
 use Rattle.linear_forms.proofs.Peeling.{terms_of-push}
 use Rattle.linear_forms.proofs.Steps.{terms_from}
 

@@ -1,18 +1,20 @@
 -- What a form modulo a number keeps. All numbers are unlimited.
-use Rattle.std.proofs.Common.{◌≡◌, ℕ, List, [], ◌∷◌, ap, sym, ◌∙◌, subst, refl, arith}
+use Rattle.std.proofs.Common.{◌≡◌, ℕ, List, [], ◌∷◌, ap, sym, ◌∙◌, subst, refl, arith, inl, inr}
 use Rattle.std.proofs.Math.IntN.{ℤ, pos, ◌+ℤ◌, ◌-ℤ◌, ◌*ℤ◌}
 use Rattle.std.specs.Prelude.{◌<ℤ◌, ◌≤ℤ◌}
 use Rattle.std.proofs.lemmas.Bool.{cases_eq}
 use Rattle.std.proofs.lemmas.Int.{ints}
-use Rattle.std.proofs.Common.{inl, inr}
-use Rattle.formula_meaning.specs.FromExactNumbers.{Divides, residue_of, DividesAll, IsResidue}
-use Rattle.formula_meaning.proofs.FromExactNumbers.{sub_mul, divides_along, divides_add, divides_mul, divides_zero, divides_trans, residue_is, residue_unique, residue_not_negative, residue_below, divides_from_residue}
-use Rattle.formula_meaning.specs.Point.{Point}
-use Rattle.formula_meaning.specs.Form.{Form, Term, total, multiple, value}
-use Rattle.formula_meaning.specs.Sorted.{AllAbove, IsRising, AllNonzero, IsSorted}
-use Rattle.formula_meaning.proofs.Sorted.{here, elsewhere, multiple_above}
-use Rattle.linear_forms.specs.Terms.{coefficients}
-use Rattle.linear_forms.specs.Reduction.{residues, residue_form, AllReduced}
+use Rattle.exact_numbers.specs.Divides.{Divides, residue_of}
+use Rattle.exact_numbers.specs.Division.{DividesAll, IsResidue}
+use Rattle.exact_numbers.proofs.Ring.{sub_mul}
+use Rattle.exact_numbers.proofs.Divisibility.{divides_along, divides_add, divides_mul, divides_zero, divides_trans}
+use Rattle.exact_numbers.proofs.Floor.{residue_is, residue_unique, residue_not_negative, residue_below, divides_from_residue}
+use Rattle.logic_meaning.specs.Point.{Point}
+use Rattle.logic_meaning.specs.Form.{Form, Term, total, multiple, value}
+use Rattle.logic_meaning.specs.Sorted.{AllAbove, IsRising, AllNonzero, IsSorted}
+use Rattle.formula_laws.proofs.Sorted.{here, elsewhere, multiple_above}
+use Rattle.logic_meaning.specs.Terms.{coefficients}
+use Rattle.logic_meaning.specs.Reduction.{residues, residue_form, AllReduced}
 use Rattle.linear_forms.proofs.Reduced.{residues_other, by_residue, above_residues}
 
 module _ (m : ℤ) (p : pos 0 <ℤ m) where

@@ -2,11 +2,11 @@
 use Rattle.std.proofs.Common.{◌≡◌, ◌<◌, inl, inr, ℕ, List, [], ◌∷◌, ◌++◌, refl, arith}
 use Rattle.std.proofs.Math.IntN.{pos}
 use Rattle.std.proofs.lemmas.Int.{ints}
-use Rattle.formula_meaning.specs.FromExactNumbers.{InLimit}
-use Rattle.formula_meaning.proofs.FromExactNumbers.{zero_mul}
-use Rattle.formula_meaning.specs.Form.{Term}
-use Rattle.formula_meaning.specs.Sorted.{AllAbove, IsRising, AllNonzero}
-use Rattle.linear_forms.specs.Terms.{AllInLimit}
+use Rattle.exact_numbers.specs.Limit.{InLimit}
+use Rattle.exact_numbers.proofs.Ring.{zero_mul}
+use Rattle.logic_meaning.specs.Form.{Term}
+use Rattle.logic_meaning.specs.Sorted.{AllAbove, IsRising, AllNonzero}
+use Rattle.logic_meaning.specs.Terms.{AllInLimit}
 use Rattle.linear_forms.specs.Merging.{FirstIs, IsNext, Precede, IsPeeled}
 
 pub above_push : (x : ℕ) (ts : List Term) (t : Term) → AllAbove x ts → x < t.name → AllAbove x (ts ++ t ∷ [])

@@ -7,13 +7,13 @@ use Rattle.std.specs.List.{HoldsAt}
 use Rattle.std.specs.List.Sorted.{IsNonDecreasingBy, IsPartitionPoint}
 use Rattle.std.proofs.lemmas.Bool.{cases_lt, cases_eq}
 use Rattle.std.proofs.lemmas.Bool.Decides.{nat_tests}
-use Rattle.formula_meaning.specs.FromExactNumbers.{InLimit}
-use Rattle.formula_meaning.specs.Form.{Term, multiple}
-use Rattle.linear_forms.specs.declared.form.VarId.{VarId}
+use Rattle.exact_numbers.specs.Limit.{InLimit}
+use Rattle.logic_meaning.specs.Form.{Term, multiple}
+use Rattle.logic_meaning.specs.declared.form.VarId.{VarId}
 use Rattle.linear_forms.specs.Linear.{term_of, terms_of}
-use Rattle.formula_meaning.specs.Sorted.{AllAbove, IsRising}
-use Rattle.linear_forms.specs.Terms.{AllInLimit}
-use Rattle.formula_meaning.proofs.Sorted.{here, elsewhere}
+use Rattle.logic_meaning.specs.Sorted.{AllAbove, IsRising}
+use Rattle.logic_meaning.specs.Terms.{AllInLimit}
+use Rattle.formula_laws.proofs.Sorted.{here, elsewhere}
 
 above_at : (x : ℕ) (xs : List (VarId × ℤ)) (i : ℕ) (d : VarId × ℤ) → AllAbove x (terms_of xs) → i < length xs → x < (get_or xs i d).0.number
 above_at x [] i d a h = absurd (omega arith)

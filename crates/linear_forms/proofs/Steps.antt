@@ -3,12 +3,12 @@ use Rattle.std.proofs.Common.{◌≡◌, ◌<◌, ◌⊎◌, inl, inr, ℕ, List
 use Rattle.std.proofs.Math.IntN.{ℤ, pos, ◌+ℤ◌, ◌*ℤ◌}
 use Rattle.std.specs.Prelude.{◌<ℤ◌, unsigned_abs}
 use Rattle.std.proofs.lemmas.Int.{ints}
-use Rattle.formula_meaning.specs.FromExactNumbers.{PastLimit, checked}
-use Rattle.formula_meaning.proofs.FromExactNumbers.{by_limit}
-use Rattle.formula_meaning.specs.Form.{Form, Term, total, value}
-use Rattle.linear_forms.specs.Terms.{total_steps, value_steps, TotalPasses, ValuePasses}
+use Rattle.exact_numbers.specs.Limit.{PastLimit, checked}
+use Rattle.exact_numbers.proofs.Limits.{by_limit}
+use Rattle.logic_meaning.specs.Form.{Form, Term, total, value}
+use Rattle.logic_meaning.specs.Terms.{total_steps, value_steps, TotalPasses, ValuePasses}
 use Rattle.linear_forms.proofs.Places.{at_none}
-use Rattle.linear_forms.specs.declared.form.VarId.{VarId}
+use Rattle.logic_meaning.specs.declared.form.VarId.{VarId}
 use Rattle.linear_forms.specs.Linear.{term_of, terms_of}
 use Rattle.linear_forms.specs.Values.{Numbers, number_at, point_of}
 

@@ -3,8 +3,8 @@ use Rattle.std.proofs.Common.{◌≡◌, ℕ, Bool, true, false, List, [], ◌�
 use Rattle.std.proofs.Math.IntN.{ℤ, pos, ◌+ℤ◌, ◌*ℤ◌}
 use Rattle.std.proofs.lemmas.Int.{ints}
 use Rattle.std.proofs.lemmas.Bool.Decides.{nat_tests}
-use Rattle.formula_meaning.proofs.FromExactNumbers.{mul_zero, mul_one}
-use Rattle.formula_meaning.specs.Form.{Term, total, multiple}
+use Rattle.exact_numbers.proofs.Ring.{mul_zero, mul_one}
+use Rattle.logic_meaning.specs.Form.{Term, total, multiple}
 
 -- 1 at x, and 0 elsewhere
 abbrev pub one_at : ℕ → ℕ → ℤ

@@ -1,11 +1,11 @@
 -- Sums of multiples of forms.
 use Rattle.std.specs.Prelude.{◌≡◌, ℕ, ℤ, ◌+ℤ◌, ◌*ℤ◌}
-use Rattle.formula_meaning.specs.FromExactNumbers.{InLimit}
-use Rattle.formula_meaning.specs.Point.{Point}
-use Rattle.formula_meaning.specs.Sorted.{IsSorted}
-use Rattle.formula_meaning.specs.Form.{Form, value, coefficient}
-use Rattle.formula_meaning.specs.Numbers.{AllInLimit}
-use Rattle.formula_meaning.specs.Combining.{CombinesWithin}
+use Rattle.exact_numbers.specs.Limit.{InLimit}
+use Rattle.logic_meaning.specs.Point.{Point}
+use Rattle.logic_meaning.specs.Sorted.{IsSorted}
+use Rattle.logic_meaning.specs.Form.{Form, value, coefficient}
+use Rattle.logic_meaning.specs.Numbers.{AllInLimit}
+use Rattle.logic_meaning.specs.Combining.{CombinesWithin}
 
 -- a form as the program holds it: sorted, and each number within the limit
 pub record IsLinear (f : Form) : Type 0 where

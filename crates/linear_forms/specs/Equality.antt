@@ -6,7 +6,7 @@ use Rattle.std.specs.Bool.{Decides}
 use Rattle.std.specs.Cmp.{first_so, second_so, signed_Decides, unsigned_Decides}
 use Rattle.std.specs.Cmp.Lexicographic.{pointwise, pointwise_decides}
 use Rattle.std.specs.Hash.{HashWrites, slice, usize, i128}
-use Rattle.formula_meaning.specs.Form.{Form, Term}
+use Rattle.logic_meaning.specs.Form.{Form, Term}
 
 -- the same name and the same coefficient
 abbrev pub term_eq : Term → Term → Bool

@@ -1,9 +1,6 @@
-pub mod Terms
 pub mod Combinations
 pub mod Linear
 pub mod Merging
 pub mod Values
 pub mod Equality
-pub mod Reduction
-pub mod FromExactNumbers
-pub mod FromFormulaMeaning
+pub mod FromFormulaLaws

@@ -1,7 +1,7 @@
 -- The program's pairs of a name and a coefficient, as terms.
 use Rattle.std.specs.Prelude.{◌≡◌, ◌*ℤ◌, ℤ, List, [], ◌∷◌}
-use Rattle.linear_forms.specs.declared.form.VarId.{VarId}
-use Rattle.formula_meaning.specs.Form.{Term}
+use Rattle.logic_meaning.specs.declared.form.VarId.{VarId}
+use Rattle.logic_meaning.specs.Form.{Term}
 
 -- the pair as a term
 abbrev pub term_of : VarId × ℤ → Term

@@ -1,8 +1,8 @@
 -- What the merge of two lists of terms keeps.
 use Rattle.std.specs.Prelude.{◌≡◌, ◌⊎◌, ℕ, ◌≤◌, ℤ, pos, ◌+ℤ◌, ◌*ℤ◌, List, [], ◌∷◌}
-use Rattle.formula_meaning.specs.Form.{Term, total, multiple}
-use Rattle.formula_meaning.specs.Sorted.{AllAbove, IsRising, AllNonzero}
-use Rattle.linear_forms.specs.Terms.{AllInLimit, PlaceWithin}
+use Rattle.logic_meaning.specs.Form.{Term, total, multiple}
+use Rattle.logic_meaning.specs.Sorted.{AllAbove, IsRising, AllNonzero}
+use Rattle.logic_meaning.specs.Terms.{AllInLimit, PlaceWithin}
 
 -- the first name is x or above
 abbrev pub FirstAtLeast : ℕ → List Term → Type 0

@@ -1,9 +1,9 @@
 -- Whole numbers for names, over one denominator.
 use Rattle.std.specs.Prelude.{◌≡◌, ◌⊎◌, ◌*ℤ◌, ℕ, ℤ, pos, List, nat_eq, unwrap_or, unsigned_abs}
 use Rattle.std.specs.Map.{lookup}
-use Rattle.formula_meaning.specs.FromExactNumbers.{InLimit, PastLimit}
-use Rattle.formula_meaning.specs.Point.{Point}
-use Rattle.linear_forms.specs.declared.form.VarId.{VarId}
+use Rattle.exact_numbers.specs.Limit.{InLimit, PastLimit}
+use Rattle.logic_meaning.specs.Point.{Point}
+use Rattle.logic_meaning.specs.declared.form.VarId.{VarId}
 
 -- the entries put in, and the denominator
 pub record Numbers : Type 0 where

@@ -1,11 +1,13 @@
 // A linear form: a sorted list of names with their coefficients, and a constant.
 ghost use Rattle.std.specs.Prelude.{◌≡◌, ℕ, pos, ◌<ℤ◌, [], ◌∷◌, IfOk, IfErr, IsErrOf, MatchOption, option_map, length, slice_get};
-ghost use Rattle.formula_meaning.specs.FromExactNumbers.{InLimit, content_of, DividesAll, IsContent};
-ghost use Rattle.formula_meaning.specs.Form.{coefficient, value};
-ghost use Rattle.linear_forms.specs.Terms.{CombinePasses, coefficients, value_steps, ValuePasses};
+ghost use Rattle.exact_numbers.specs.Limit.{InLimit};
+ghost use Rattle.exact_numbers.specs.Divides.{content_of};
+ghost use Rattle.exact_numbers.specs.Division.{DividesAll, IsContent};
+ghost use Rattle.logic_meaning.specs.Form.{coefficient, value};
+ghost use Rattle.logic_meaning.specs.Terms.{CombinePasses, coefficients, value_steps, ValuePasses};
 ghost use Rattle.linear_forms.specs.Combinations.{IsLinear, IsCombination, IsQuotient};
 ghost use Rattle.linear_forms.specs.Values.{number_at, point_of};
-ghost use Rattle.linear_forms.specs.Reduction.{quotient, residue_form};
+ghost use Rattle.logic_meaning.specs.Reduction.{quotient, residue_form};
 ghost use Rattle.linear_forms.specs.Equality.{form_eq, form_decides, form_writes};
 ghost use Rattle.std.proofs.Common.{ap};
 ghost use Rattle.std.specs.Cmp.{decided, partial_equiv_from_equiv};
@@ -14,16 +16,11 @@ use crate::error::LinError;
 use crate::merge::{merge, place};
 use crate::terms;
 use crate::values::{Values, total};
-use formula_meaning::{product, residue, sum};
+use exact_numbers::{product, residue, sum};
+use logic_meaning::VarId;
 use std::alloc::{AllocError, Global};
 use std::hash::{Hash, Hasher};
 use std::marker::Model;
-
-/// The number of a name.
-#[derive(Clone, Copy, Debug, PartialEq, Eq, PartialOrd, Ord, Hash)]
-pub struct VarId {
-    pub number: usize,
-}
 
 /// A sum of whole multiples of names, and a constant.
 #[derive(Debug, Drop)]
@@ -33,7 +30,7 @@ pub struct Linear {
 }
 
 impl Model for Linear {
-    ghost use Rattle.formula_meaning.specs.Form.{Form};
+    ghost use Rattle.logic_meaning.specs.Form.{Form};
     ghost use Rattle.linear_forms.specs.Combinations.{IsLinear};
 
     ghost Value = { Form };

@@ -1,7 +1,7 @@
 // The laws of linear forms that other crates build on.
 ghost use Rattle.std.specs.Prelude.{◌≡◌, ℕ, ℤ, pos, ◌+ℤ◌, ◌*ℤ◌, Some, slice_get};
-ghost use Rattle.formula_meaning.specs.Point.{Point};
-ghost use Rattle.formula_meaning.specs.Form.{Form, Term, value, coefficient, without};
+ghost use Rattle.logic_meaning.specs.Point.{Point};
+ghost use Rattle.logic_meaning.specs.Form.{Form, Term, value, coefficient, without};
 ghost use Rattle.linear_forms.specs.Combinations.{IsLinear, IsCombination, IsQuotient};
 
 /// A form is determined by its coefficients and its constant; so there is one combination, and one quotient.

@@ -9,7 +9,6 @@ mod terms;
 mod values;
 
 pub use error::LinError;
-pub use form::{Linear, VarId};
-pub use formula_meaning::{compare_fractions, floor_div, gcd, lcm, residue};
+pub use form::Linear;
 pub use laws::{form_is_determined, form_splits, terms_have_coefficients};
 pub use values::Values;

@@ -1,14 +1,14 @@
 // The merge of two sorted lists of names with coefficients.
 ghost use Rattle.std.specs.Prelude.{◌≡◌, ◌<◌, ◌≤◌, ℕ, ◌+ℤ◌, ◌*ℤ◌, [], length, IfOk, IsErrOf, MatchOption};
-ghost use Rattle.formula_meaning.specs.Form.{multiple};
-ghost use Rattle.formula_meaning.specs.Sorted.{IsRising};
-ghost use Rattle.linear_forms.specs.Terms.{PlaceWithin, PlacePasses};
+ghost use Rattle.logic_meaning.specs.Form.{multiple};
+ghost use Rattle.logic_meaning.specs.Sorted.{IsRising};
+ghost use Rattle.logic_meaning.specs.Terms.{PlaceWithin, PlacePasses};
 ghost use Rattle.linear_forms.specs.Merging.{FirstAtLeast, FirstIs, IsNext, IsPeeled, IsMerged};
 ghost use Rattle.linear_forms.specs.Linear.{terms_of};
 
 use crate::error::LinError;
-use crate::form::VarId;
-use formula_meaning::{product, sum};
+use exact_numbers::{product, sum};
+use logic_meaning::VarId;
 use std::alloc::Global;
 
 // The sum a * x + b * y, or `None` exactly where a product or the sum passes the limit.

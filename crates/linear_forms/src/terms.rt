@@ -1,15 +1,17 @@
 // Sorted lists of names with coefficients: look-up, greatest common divisor, division.
 ghost use Rattle.std.specs.Prelude.{◌≡◌, ℤ, pos, ◌*ℤ◌, ◌<ℤ◌, IfOk};
 ghost use Rattle.std.specs.List.{AllZip};
-ghost use Rattle.formula_meaning.specs.Form.{multiple};
-ghost use Rattle.formula_meaning.specs.FromExactNumbers.{InLimit, content_of, DividesAll, IsContent};
-ghost use Rattle.formula_meaning.specs.Sorted.{IsRising};
-ghost use Rattle.linear_forms.specs.Terms.{AllInLimit, coefficients};
+ghost use Rattle.logic_meaning.specs.Form.{multiple};
+ghost use Rattle.exact_numbers.specs.Limit.{InLimit};
+ghost use Rattle.exact_numbers.specs.Divides.{content_of};
+ghost use Rattle.exact_numbers.specs.Division.{DividesAll, IsContent};
+ghost use Rattle.logic_meaning.specs.Sorted.{IsRising};
+ghost use Rattle.logic_meaning.specs.Terms.{AllInLimit, coefficients};
 ghost use Rattle.linear_forms.specs.Linear.{terms_of, IsDivided};
-ghost use Rattle.linear_forms.specs.Reduction.{residues};
+ghost use Rattle.logic_meaning.specs.Reduction.{residues};
 
-use crate::form::VarId;
-use formula_meaning::{gcd, residue};
+use exact_numbers::{gcd, residue};
+use logic_meaning::VarId;
 use std::alloc::{AllocError, Global};
 
 // The coefficient of a name, 0 where it does not stand in the list: a binary search.

@@ -1,14 +1,14 @@
 // Whole numbers for names over one denominator, and the value of a form at them.
 ghost use Rattle.std.specs.Prelude.{◌≡◌, ℕ, pos, [], ◌<ℤ◌, OnOk, OnErr, IfErr, IsErrOf, IfOk, MatchOption, map, nat_eq, if◌then◌else◌};
-ghost use Rattle.formula_meaning.specs.Form.{value};
-ghost use Rattle.linear_forms.specs.Terms.{total_steps};
+ghost use Rattle.logic_meaning.specs.Form.{value};
+ghost use Rattle.logic_meaning.specs.Terms.{total_steps};
 ghost use Rattle.linear_forms.specs.Linear.{terms_of};
 ghost use Rattle.linear_forms.specs.Values.{number_at, number_of, IsFiner, FinerPasses};
 ghost use Rattle.std.specs.Map.{keys_of};
 
 use crate::error::LinError;
-use crate::form::VarId;
-use formula_meaning::{product, sum};
+use exact_numbers::{product, sum};
+use logic_meaning::VarId;
 use std::alloc::{AllocError, Global};
 use std::collections::BTreeMap;
 use std::marker::Model;

@@ -2,31 +2,31 @@
 use Rattle.std.proofs.Common.{◌≡◌, ℕ, ◌+◌, ◌<◌, ◌≤◌, Bool, true, false, cond, if◌then◌else◌, List, [], ◌∷◌, ◌++◌, map, filter, length, get_or, drop, Option, Some, None, refl, sym, ap, ◌∙◌, subst, ◌↔◌}
 use Rattle.std.proofs.Math.ListN.{drop_of_length-le}
 use Rattle.exact_numbers.specs.Frac.{Frac, IsProper}
-use Rattle.formula_meaning.specs.Some.{Among}
-use Rattle.formula_meaning.specs.Atom.{Atom}
-use Rattle.formula_meaning.specs.Tree.{Tree}
-use Rattle.formula_meaning.specs.Equivalence.{InContext}
-use Rattle.formula_meaning.specs.Context.{Fields}
-use Rattle.formula_meaning.specs.Shape.{IsQuantifierFree}
-use Rattle.formula_meaning.proofs.Listed.{some_among, among_some}
-use Rattle.formula_meaning.proofs.Iff.{both_ways, turn_round}
-use Rattle.elimination_theory.specs.Atoms.{atoms_in}
-use Rattle.atom_normal.specs.Atoms.{atom_of}
+use Rattle.logic_meaning.specs.Some.{Among}
+use Rattle.logic_meaning.specs.Atom.{Atom}
+use Rattle.logic_meaning.specs.Tree.{Tree}
+use Rattle.formula_laws.specs.Equivalence.{InContext}
+use Rattle.logic_meaning.specs.Context.{Fields}
+use Rattle.logic_meaning.specs.Shape.{IsQuantifierFree}
+use Rattle.formula_laws.proofs.Listed.{some_among, among_some}
+use Rattle.formula_laws.proofs.Iff.{both_ways, turn_round}
+use Rattle.logic_meaning.specs.Atoms.{atoms_in}
+use Rattle.normal_atoms.specs.Atoms.{atom_of}
 use Rattle.formula_tree.specs.declared.shape.Shape.{Shape}
 use Rattle.formula_tree.specs.Shapes.{tree_over}
 use Rattle.formula_store.specs.declared.id.FormulaId.{FormulaId}
 use Rattle.formula_store.specs.Nodes.{tree, IsId}
 use Rattle.formula_store.specs.Order.{IsOrder}
-use Rattle.sample_answers.specs.FromBranchPoints.{shape_atoms}
-use Rattle.sample_answers.proofs.FromBranchPoints.{atoms_at}
-use Rattle.sample_answers.proofs.Searching.{node_atoms, same_atoms}
-use Rattle.sample_reference.specs.Values.{origin}
-use Rattle.sample_reference.specs.Calculated.{atom_root, with_root, critical_values, least_with, lesser}
+use Rattle.branch_points.specs.Chosen.{shape_atoms}
+use Rattle.branch_points.proofs.ListedAtoms.{atoms_at}
+use Rattle.engine_answers.proofs.Searching.{node_atoms, same_atoms}
+use Rattle.logic_meaning.specs.Values.{origin}
+use Rattle.logic_meaning.specs.Calculated.{atom_root, with_root, critical_values, least_with, lesser}
 use Rattle.sample_reference.proofs.Critical.{roots_proper, from_atom, to_atom}
 use Rattle.sample_reference.proofs.CriticalSets.{same_least, once_same}
-use Rattle.least_theory.specs.Answer.{truth_by, is_true_at, is_true_far, true_values, found, least_of, Found, Unbounded, IsAnswer}
-use Rattle.least_theory.specs.WeakTargets.{HasLeast}
-use Rattle.least_theory.proofs.Found.{among_filter, filter_among, filter_each, critical_lowest, least_found}
+use Rattle.linear_theory.specs.Answer.{truth_by, is_true_at, is_true_far, true_values, found, least_of, Found, Unbounded, IsAnswer}
+use Rattle.linear_theory.specs.WeakTargets.{HasLeast}
+use Rattle.linear_theory.proofs.LeastTheoryFound.{among_filter, filter_among, filter_each, critical_lowest, least_found}
 use Rattle.linear_opt.specs.Least.{least_from}
 
 -- ---- atoms after atoms

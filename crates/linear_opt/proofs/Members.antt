@@ -3,10 +3,10 @@ use Rattle.std.proofs.Common.{◌≡◌, ℕ, zero, suc, ◌+◌, ◌<◌, Bool,
 use Rattle.std.proofs.lemmas.List.{take_more}
 use Rattle.std.specs.List.{AllByRecursion}
 use Rattle.std.specs.Prelude.{◌||◌, ◌&&◌}
-use Rattle.formula_meaning.specs.Atom.{Atom}
-use Rattle.formula_meaning.specs.Tree.{Tree}
+use Rattle.logic_meaning.specs.Atom.{Atom}
+use Rattle.logic_meaning.specs.Tree.{Tree}
 use Rattle.formula_tree.specs.Trees.{members}
-use Rattle.least_theory.specs.Answer.{truth_by, all_by, some_by}
+use Rattle.linear_theory.specs.Answer.{truth_by, all_by, some_by}
 use Rattle.linear_opt.specs.Truths.{all_of, some_of}
 
 module _ {Id : Type 0} (test : Id → Bool) where

@@ -5,7 +5,7 @@ use Rattle.std.specs.Prelude.{◌<ℤ◌, int_lt}
 use Rattle.std.proofs.lemmas.Int.{ints}
 use Rattle.exact_numbers.proofs.Order.{by_compare, mul_less}
 use Rattle.exact_numbers.proofs.Ring.{mul_comm, zero_mul, neg_mul, mul_neg, mul_zero}
-use Rattle.least_theory.specs.Answer.{far_order}
+use Rattle.linear_theory.specs.Answer.{far_order}
 
 -- two pairs of numbers with one order
 pub same_order : (a b c d : ℤ) → (a <ℤ b → c <ℤ d) → (a ≡ b → c ≡ d) → (b <ℤ a → d <ℤ c) → int_cmp a b ≡ int_cmp c d

@@ -3,13 +3,13 @@ use Rattle.std.proofs.Common.{◌≡◌, Bool, true, false, not, refl, sym, ap, 
 use Rattle.std.specs.Bool.{beq}
 use Rattle.std.specs.List.{AllByRecursion}
 use Rattle.std.specs.Prelude.{◌||◌, ◌&&◌, unwrap_or}
-use Rattle.formula_meaning.specs.Atom.{Atom}
+use Rattle.logic_meaning.specs.Atom.{Atom}
 use Rattle.formula_tree.specs.declared.shape.Shape.{Shape}
 use Rattle.formula_tree.specs.Shapes.{AllIds, tree_over}
 use Rattle.formula_store.specs.declared.id.FormulaId.{FormulaId}
 use Rattle.formula_store.specs.Nodes.{tree}
 use Rattle.formula_store.specs.Tables.{TableOf}
-use Rattle.least_theory.specs.Answer.{truth_by}
+use Rattle.linear_theory.specs.Answer.{truth_by}
 use Rattle.linear_opt.specs.Truths.{HasTruth, IsThere, truth_in}
 
 -- ---- truths together

@@ -2,10 +2,10 @@
 use Rattle.std.specs.Prelude.{ℕ, Bool, true, List, filter, Option, Some, None}
 use Rattle.exact_numbers.specs.Frac.{Frac}
 use Rattle.exact_numbers.specs.Fraction.{frac_of}
-use Rattle.formula_meaning.specs.Atom.{Atom}
-use Rattle.formula_meaning.specs.Tree.{Tree}
-use Rattle.sample_reference.specs.Calculated.{is_less, critical_values, least_with}
-use Rattle.least_theory.specs.Answer as answer
+use Rattle.logic_meaning.specs.Atom.{Atom}
+use Rattle.logic_meaning.specs.Tree.{Tree}
+use Rattle.logic_meaning.specs.Calculated.{is_less, critical_values, least_with}
+use Rattle.linear_theory.specs.Answer as answer
 use Rattle.linear_opt.specs.declared.least.Least.{Least}
 use Rattle.linear_opt.specs.declared.least.Least.TheVariants.{Infeasible, Unbounded, At}
 

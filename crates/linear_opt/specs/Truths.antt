@@ -1,13 +1,13 @@
 -- Truths of the distinct subformulas of a formula, in a table.
 use Rattle.std.specs.Prelude.{◌≡◌, Bool, true, false, ◌&&◌, ◌||◌, List, [], ◌∷◌, IsSome, unwrap_or}
 use Rattle.std.specs.HashMap.{get}
-use Rattle.formula_meaning.specs.Atom.{Atom}
+use Rattle.logic_meaning.specs.Atom.{Atom}
 use Rattle.formula_tree.specs.declared.shape.Shape.{Shape}
 use Rattle.formula_store.specs.declared.id.FormulaId.{FormulaId}
 use Rattle.formula_store.specs.Nodes.{tree, IsId}
 use Rattle.formula_store.specs.Order.{IsOrder}
 use Rattle.formula_store.specs.Tables.{TableOf, same_id, Has}
-use Rattle.least_theory.specs.Answer.{truth_by}
+use Rattle.linear_theory.specs.Answer.{truth_by}
 use Rattle.linear_opt.specs.declared.truths.Listed.{Listed}
 
 -- the ids are those of the formula's distinct subformulas, members first

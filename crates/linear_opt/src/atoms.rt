@@ -3,16 +3,15 @@ ghost use Rattle.std.specs.Prelude.{◌≡◌, ◌+ℤ◌, ◌*ℤ◌, pos, opti
 ghost use Rattle.std.specs.Ordering.{int_cmp};
 ghost use Rattle.exact_numbers.specs.Fraction.{frac_of};
 ghost use Rattle.exact_numbers.specs.Limit.{InLimit};
-ghost use Rattle.atom_normal.specs.Atoms.{atom_of};
-ghost use Rattle.sample_reference.specs.Calculated.{atom_root};
-ghost use Rattle.least_theory.specs.Answer.{far_order};
+ghost use Rattle.normal_atoms.specs.Atoms.{atom_of};
+ghost use Rattle.logic_meaning.specs.Calculated.{atom_root};
+ghost use Rattle.linear_theory.specs.Answer.{far_order};
 ghost use Rattle.linear_opt.specs.Values.{told};
 
-use atom_normal::{Atom, holds};
-use elimination_theory::Side;
+use engine_answers::least_with_atom;
 use exact_numbers::{Fraction, compare_fractions};
-use linear_forms::VarId;
-use sample_answers::least_with_atom;
+use logic_meaning::{Side, VarId};
+use normal_atoms::{Atom, holds};
 use std::cmp::Ordering;
 
 /// A value of a name.

@@ -1,16 +1,16 @@
 // The least value.
 ghost use Rattle.std.specs.Prelude.{◌≡◌, [], None, IfOk, map, option_map};
 ghost use Rattle.exact_numbers.specs.Fraction.{frac_of};
-ghost use Rattle.formula_meaning.specs.Context.{Fields};
-ghost use Rattle.formula_meaning.specs.Shape.{IsQuantifierFree};
-ghost use Rattle.formula_meaning.specs.Equivalence.{InContext};
-ghost use Rattle.atom_normal.specs.Atoms.{atom_of};
-ghost use Rattle.sample_answers.specs.FromBranchPoints.{shape_atoms};
+ghost use Rattle.logic_meaning.specs.Context.{Fields};
+ghost use Rattle.logic_meaning.specs.Shape.{IsQuantifierFree};
+ghost use Rattle.formula_laws.specs.Equivalence.{InContext};
+ghost use Rattle.normal_atoms.specs.Atoms.{atom_of};
+ghost use Rattle.branch_points.specs.Chosen.{shape_atoms};
 ghost use Rattle.formula_store.specs.Nodes.{tree, IsId};
-ghost use Rattle.sample_reference.specs.Values.{origin};
-ghost use Rattle.sample_reference.specs.Calculated.{is_less, least_with};
-ghost use Rattle.least_theory.specs.WeakTargets.{HasLeast};
-ghost use Rattle.least_theory.specs.Answer.{least_of, true_values, IsAnswer};
+ghost use Rattle.logic_meaning.specs.Values.{origin};
+ghost use Rattle.logic_meaning.specs.Calculated.{is_less, least_with};
+ghost use Rattle.linear_theory.specs.WeakTargets.{HasLeast};
+ghost use Rattle.linear_theory.specs.Answer.{least_of, true_values, IsAnswer};
 ghost use Rattle.linear_opt.specs.Truths.{IsListed};
 ghost use Rattle.linear_opt.specs.Least.{found_of, least_from, is_before};
 
@@ -19,7 +19,7 @@ use crate::truths::{Listed, Table};
 use exact_numbers::{Fraction, compare_fractions};
 use formula_store::{FormulaId, Store, StoreError};
 use formula_tree::Shape;
-use linear_forms::VarId;
+use logic_meaning::VarId;
 use std::alloc::AllocError;
 use std::cmp::Ordering;
 use std::collections::HashMap;

@@ -6,4 +6,3 @@ mod least;
 mod truths;
 
 pub use least::{Least, OptError, least_value};
-pub use sample_answers::guards_together;

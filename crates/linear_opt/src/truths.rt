@@ -5,14 +5,14 @@ ghost use Rattle.formula_tree.specs.declared.shape.Shape.{Shape};
 ghost use Rattle.formula_tree.specs.Shapes.{AllIds};
 ghost use Rattle.formula_store.specs.declared.id.FormulaId.{FormulaId};
 ghost use Rattle.formula_store.specs.Nodes.{tree, IsId};
-ghost use Rattle.least_theory.specs.Answer.{truth_by};
+ghost use Rattle.linear_theory.specs.Answer.{truth_by};
 ghost use Rattle.linear_opt.specs.Values.{told};
 ghost use Rattle.linear_opt.specs.Truths.{IsListed, HasTruth, IsThere, truth_in, all_of, some_of};
 
 use crate::atoms::{Value, is_true};
 use formula_store::{FormulaId, Store};
 use formula_tree::Shape;
-use linear_forms::VarId;
+use logic_meaning::VarId;
 use std::alloc::AllocError;
 use std::collections::HashMap;
 

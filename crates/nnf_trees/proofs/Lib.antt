@@ -2,4 +2,6 @@ pub mod NnfEquations
 pub mod Pieces
 pub mod Counting
 pub mod FormLaws
-pub mod FromFormulaTree
+pub mod AtomsOnce
+pub mod PutLaws
+pub mod ResultLaws

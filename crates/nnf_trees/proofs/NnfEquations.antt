@@ -4,14 +4,16 @@ use Rattle.std.specs.Prelude.{map}
 use Rattle.std.specs.declared.boxed.Box.{Box}
 use Rattle.std.specs.declared.alloc.Global.{Global}
 use Rattle.std.specs.declared.vec.Vec.{Vec}
-use Rattle.formula_meaning.specs.Fold.{joined}
-use Rattle.formula_meaning.specs.Shape.{quantified}
-use Rattle.formula_meaning.specs.Formula.{Yes, One, And}
-use Rattle.formula_tree.specs.FromLinearForms.{VarId}
-use Rattle.formula_tree.specs.FromAtomNormal.{Atom, atom_of, constant_tree}
+use Rattle.logic_meaning.specs.Fold.{joined}
+use Rattle.logic_meaning.specs.Shape.{quantified}
+use Rattle.logic_meaning.specs.Formula.{Yes, One, And}
+use Rattle.logic_meaning.specs.declared.form.VarId.{VarId}
+use Rattle.normal_atoms.specs.declared.atoms.Atom.{Atom}
+use Rattle.normal_atoms.specs.Atoms.{atom_of}
+use Rattle.logic_meaning.specs.NormalForm.{constant_tree}
 use Rattle.formula_tree.specs.Trees.{members}
-use Rattle.formula_meaning.specs.declared.junction.Junction.{Junction}
-use Rattle.formula_meaning.specs.declared.quantifier.Quantifier.{Quantifier}
+use Rattle.logic_meaning.specs.declared.junction.Junction.{Junction}
+use Rattle.logic_meaning.specs.declared.quantifier.Quantifier.{Quantifier}
 use Rattle.nnf_trees.specs.declared.nnf.Nnf as code
 use Rattle.nnf_trees.specs.declared.nnf.Nnf.TheVariants as nnf
 use Rattle.nnf_trees.specs.declared.nnf.Nnf.TheOpen as layer

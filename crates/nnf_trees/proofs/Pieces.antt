@@ -1,17 +1,17 @@
 -- What a member gives to the pieces of a fold.
 use Rattle.std.proofs.Common.{◌≡◌, sym, ap, ◌∙◌, subst, refl, Bool, true, false, List, [], ◌∷◌, ◌++◌, map, Some, None, Option, length, ◌<◌, arith}
 use Rattle.std.specs.Prelude.{if◌then◌else◌}
-use Rattle.formula_meaning.specs.Shape.{quantified}
-use Rattle.formula_meaning.specs.declared.quantifier.Quantifier.TheVariants.{Exists, ForAll}
-use Rattle.formula_meaning.specs.Formula.{One, none, also}
-use Rattle.formula_meaning.specs.Fold.{joined, append, pieces_of, put_together, neutral, absorbing, all_pieces, from_pieces, fold_list}
-use Rattle.formula_meaning.specs.declared.junction.Junction.TheVariants.{Conjunction, Disjunction}
-use Rattle.formula_meaning.specs.Tree.{Tree, Trees}
-use Rattle.formula_tree.specs.FromAtomNormal.{constant_tree}
+use Rattle.logic_meaning.specs.Shape.{quantified}
+use Rattle.logic_meaning.specs.declared.quantifier.Quantifier.TheVariants.{Exists, ForAll}
+use Rattle.logic_meaning.specs.Formula.{One, none, also}
+use Rattle.logic_meaning.specs.Fold.{joined, append, pieces_of, put_together, neutral, absorbing, all_pieces, from_pieces, fold_list}
+use Rattle.logic_meaning.specs.declared.junction.Junction.TheVariants.{Conjunction, Disjunction}
+use Rattle.logic_meaning.specs.Tree.{Tree, Trees}
+use Rattle.logic_meaning.specs.NormalForm.{constant_tree}
 use Rattle.formula_tree.specs.Trees.{members}
-use Rattle.formula_meaning.specs.contracts.junction.Junction.{the_type}
-use Rattle.formula_meaning.specs.declared.junction.Junction.{Junction}
-use Rattle.formula_meaning.specs.declared.quantifier.Quantifier.{Quantifier}
+use Rattle.logic_meaning.specs.contracts.junction.Junction.{the_type}
+use Rattle.logic_meaning.specs.declared.junction.Junction.{Junction}
+use Rattle.logic_meaning.specs.declared.quantifier.Quantifier.{Quantifier}
 use Rattle.nnf_trees.specs.declared.nnf.Nnf.{Nnf}
 use Rattle.nnf_trees.specs.Nnfs.{nnf_of, AreProper, IsProper}
 use denote.Enum.Bare.{sameb}

@@ -1,8 +1,8 @@
 -- The negation normal form of a formula or of its negation, and its nodes as far as they can be counted.
 use Rattle.std.specs.Prelude.{ℕ, ◌+◌, ◌^◌, nat_lt, Bool, true, false, Option, Some, None, if◌then◌else◌}
-use Rattle.formula_meaning.specs.NegationNormal.{normal_form, normal_form_of_not, normal_forms, normal_forms_of_not}
-use Rattle.formula_meaning.specs.Tree.{Tree, Trees}
-use Rattle.formula_tree.specs.FromAtomNormal.{negated_normal}
+use Rattle.logic_meaning.specs.NegationNormal.{normal_form, normal_form_of_not, normal_forms, normal_forms_of_not}
+use Rattle.logic_meaning.specs.Tree.{Tree, Trees}
+use Rattle.logic_meaning.specs.NormalForm.{negated_normal}
 
 -- the negation normal form of the formula (false), or of its negation (true)
 abbrev pub form : Bool → Tree → Tree

@@ -1,3 +1,3 @@
 pub mod Nnfs
 pub mod Forms
-pub mod FromFormulaTree
+pub mod Placed

@@ -1,12 +1,14 @@
 -- The formula that a tree in negation normal form stands for, and what is known of its atoms.
 use Rattle.std.specs.Prelude.{ℕ, ◌<◌, ◌^◌, List, [], ◌∷◌, map}
-use Rattle.formula_meaning.specs.Formula.{Formula, Formulas, Yes, One, And, none, also}
-use Rattle.formula_meaning.specs.Fold.{joined}
-use Rattle.formula_meaning.specs.Shape.{quantified}
-use Rattle.formula_meaning.specs.Every.{Every, EveryOf}
-use Rattle.formula_meaning.specs.Atom as meant
-use Rattle.formula_meaning.specs.Tree as meaning
-use Rattle.formula_tree.specs.FromAtomNormal.{Atom, atom_of, IsWellFormed, constant_tree}
+use Rattle.logic_meaning.specs.Formula.{Formula, Formulas, Yes, One, And, none, also}
+use Rattle.logic_meaning.specs.Fold.{joined}
+use Rattle.logic_meaning.specs.Shape.{quantified}
+use Rattle.logic_meaning.specs.Every.{Every, EveryOf}
+use Rattle.logic_meaning.specs.Atom as meant
+use Rattle.logic_meaning.specs.Tree as meaning
+use Rattle.normal_atoms.specs.declared.atoms.Atom.{Atom}
+use Rattle.normal_atoms.specs.Atoms.{atom_of, IsWellFormed}
+use Rattle.logic_meaning.specs.NormalForm.{constant_tree}
 use Rattle.formula_tree.specs.Trees.{members}
 use Rattle.nnf_trees.specs.declared.nnf.Nnf as code
 use Rattle.nnf_trees.specs.declared.nnf.Nnf.TheOpen as layer

@@ -1,10 +1,10 @@
 ghost use Rattle.std.specs.Prelude.{◌≡◌, Some, None, IfOk, map, if◌then◌else◌};
-ghost use Rattle.formula_meaning.specs.Fold.{fold_list, pieces_of, put_together, from_pieces};
+ghost use Rattle.logic_meaning.specs.Fold.{fold_list, pieces_of, put_together, from_pieces};
 ghost use Rattle.formula_tree.specs.Trees.{members};
 ghost use Rattle.nnf_trees.specs.Nnfs.{nnf_of, AreProper, IsProper};
 
 use crate::nnf::{Members, Nnf};
-use formula_meaning::Junction;
+use logic_meaning::Junction;
 use std::alloc::{AllocError, Global};
 
 /// The formulas joined and folded: constants go or decide the whole, a member of the same junction gives its members, and one

@@ -1,15 +1,17 @@
 ghost use Rattle.std.specs.Prelude.{◌≡◌, ◌∷◌, [], IfOk, not, if◌then◌else◌};
-ghost use Rattle.formula_meaning.specs.Fold.{joined};
-ghost use Rattle.formula_meaning.specs.Every.{Every, EveryOf};
-ghost use Rattle.formula_meaning.specs.NegationNormal.{both};
-ghost use Rattle.formula_tree.specs.FromAtomNormal.{atom_of, IsWellFormed, negated_normal};
+ghost use Rattle.logic_meaning.specs.Fold.{joined};
+ghost use Rattle.logic_meaning.specs.Every.{Every, EveryOf};
+ghost use Rattle.logic_meaning.specs.NegationNormal.{both};
+ghost use Rattle.normal_atoms.specs.Atoms.{atom_of, IsWellFormed};
+ghost use Rattle.logic_meaning.specs.NormalForm.{negated_normal};
 ghost use Rattle.formula_tree.specs.Trees.{tree_of, trees_of};
 ghost use Rattle.nnf_trees.specs.Nnfs.{nnf_of, nnfs_of, nnfs_atoms, IsProper, HasModulus};
 ghost use Rattle.nnf_trees.specs.Forms.{form, forms};
 
 use crate::nnf::{Members, Nnf};
-use formula_meaning::{Junction, Quantifier};
-use formula_tree::{Atom, Tree, Trees, negate};
+use formula_tree::{Tree, Trees};
+use logic_meaning::{Junction, Quantifier};
+use normal_atoms::{Atom, negate};
 use std::alloc::{AllocError, Global};
 
 /// The negation normal form of the formula, or of its negation. The recursion is as deep as the formula is high.

@@ -1,11 +1,11 @@
 ghost use Rattle.std.specs.Prelude.{◌≡◌, true, IfOk};
-ghost use Rattle.formula_meaning.specs.Every.{EveryOf};
-ghost use Rattle.formula_tree.specs.FromAtomNormal.{IsWellFormed};
+ghost use Rattle.logic_meaning.specs.Every.{EveryOf};
+ghost use Rattle.normal_atoms.specs.Atoms.{IsWellFormed};
 ghost use Rattle.nnf_trees.specs.Nnfs.{nnf_of, nnfs_of, nnfs_atoms, IsProper};
 ghost use Rattle.nnf_trees.specs.Forms.{form, forms};
 
 use crate::nnf::{Members, Nnf};
-use formula_tree::negate;
+use normal_atoms::negate;
 use std::alloc::{AllocError, Global};
 
 /// The negation normal form of the negation. The recursion is as deep as the formula is high.

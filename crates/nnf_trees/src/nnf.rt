@@ -2,8 +2,8 @@ ghost use Rattle.std.specs.Prelude.{◌≡◌, map};
 ghost use Rattle.formula_tree.specs.Trees.{members};
 ghost use Rattle.nnf_trees.specs.Nnfs.{nnf_of, nnfs_of, listed, nnf_atoms, nnfs_atoms};
 
-use formula_meaning::{Junction, Quantifier};
-use formula_tree::{Atom, VarId};
+use logic_meaning::{Junction, Quantifier, VarId};
+use normal_atoms::Atom;
 
 /// A resolved formula in negation normal form.
 #[derive(Drop)]

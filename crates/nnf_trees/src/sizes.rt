@@ -1,5 +1,5 @@
 ghost use Rattle.std.specs.Prelude.{◌≡◌, ◌<◌, ◌^◌, false, true, SomeIff};
-ghost use Rattle.formula_meaning.specs.Sizes.{nodes, all_nodes};
+ghost use Rattle.logic_meaning.specs.Sizes.{nodes, all_nodes};
 ghost use Rattle.formula_tree.specs.Trees.{tree_of, trees_of};
 ghost use Rattle.nnf_trees.specs.Nnfs.{nnf_of, nnfs_of};
 ghost use Rattle.nnf_trees.specs.Forms.{form, forms, limited, sum_of};

@@ -1,12 +1,12 @@
 ghost use Rattle.std.specs.Prelude.{◌≡◌, IfOk};
-ghost use Rattle.formula_meaning.specs.Shape.{quantified};
+ghost use Rattle.logic_meaning.specs.Shape.{quantified};
 ghost use Rattle.formula_tree.specs.Trees.{tree_of, trees_of};
-ghost use Rattle.formula_meaning.specs.Fold.{joined};
+ghost use Rattle.logic_meaning.specs.Fold.{joined};
 ghost use Rattle.nnf_trees.specs.Nnfs.{nnf_of, nnfs_of};
 
 use crate::nnf::{Members, Nnf};
-use formula_meaning::{Junction, Quantifier};
-use formula_tree::{Tree, Trees, VarId};
+use formula_tree::{Tree, Trees};
+use logic_meaning::{Junction, Quantifier, VarId};
 use std::alloc::{AllocError, Global};
 
 /// The formula as a resolved formula. No atom is copied. The recursion is as deep as the formula is high.

@@ -2,9 +2,9 @@
 use Rattle.std.proofs.Common.{◌≡◌, ℕ, zero, suc, ◌+◌, ◌<◌, Bool, true, false, not, List, [], ◌∷◌, length, take, get_or, refl, sym, ap, ◌∙◌, filter, add-one, arith}
 use Rattle.std.specs.Prelude.{◌||◌, ◌&&◌, if◌then◌else◌}
 use Rattle.std.specs.List.{list_any}
-use Rattle.formula_meaning.specs.declared.junction.Junction.TheVariants.{Conjunction}
+use Rattle.logic_meaning.specs.declared.junction.Junction.TheVariants.{Conjunction}
 use Rattle.formula_store.specs.declared.id.FormulaId.{FormulaId}
-use Rattle.clean_forms.specs.Lines as clean
+use Rattle.shape_theory.specs.Lines as clean
 use Rattle.normal_forms.specs.Atoms.{same_id, id_kit, is_within, some_within, not_above}
 
 and_left : (a b : Bool) → (a && b) ≡ true → a ≡ true

@@ -4,11 +4,11 @@ use Rattle.std.specs.Prelude.{◌||◌, ◌&&◌, if◌then◌else◌}
 use Rattle.std.specs.List.{AllByRecursion}
 use Rattle.std.proofs.lemmas.Bool.Decides.{nat_tests}
 use Rattle.std.proofs.Math.Nat.{mul-le-mul_left}
-use Rattle.formula_meaning.specs.declared.junction.Junction.{Junction}
-use Rattle.formula_meaning.specs.Tree.{Tree}
+use Rattle.logic_meaning.specs.declared.junction.Junction.{Junction}
+use Rattle.logic_meaning.specs.Tree.{Tree}
 use Rattle.formula_tree.specs.Trees.{members}
-use Rattle.clean_forms.specs.Counts as counts
-use Rattle.clean_forms.specs.Counts.{nothing_sizes, is_bare, product_sizes, sum_sizes, joined_sizes, sizes, more_sizes}
+use Rattle.shape_theory.specs.Counts as counts
+use Rattle.shape_theory.specs.Counts.{nothing_sizes, is_bare, product_sizes, sum_sizes, joined_sizes, sizes, more_sizes}
 use Rattle.normal_forms.specs.declared.sizes.Sizes.{Sizes}
 use Rattle.normal_forms.specs.Sizes.{most, capped, counted, all_joined}
 

@@ -3,31 +3,31 @@ use Rattle.std.proofs.Common.{◌≡◌, ℕ, ◌+◌, ◌≤◌, ◌<◌, Bool,
 use Rattle.std.specs.Prelude.{◌||◌, Result, Ok, Err, OnOk, min}
 use Rattle.std.specs.List.{AllByRecursion}
 use Rattle.std.proofs.lemmas.List.{take_more, map-append}
-use Rattle.formula_meaning.specs.Context.{Context}
-use Rattle.formula_meaning.specs.Formula.{Formula, Formulas, Yes, No, One, Not, And, Or, Impl, Repl, Equiv, Ex, All, none, also}
-use Rattle.formula_meaning.specs.Atom.{Atom}
-use Rattle.formula_meaning.specs.Fold.{from_pieces}
-use Rattle.formula_meaning.specs.TurnedJunction.{turned_junction}
-use Rattle.formula_meaning.specs.declared.junction.Junction.{Junction}
-use Rattle.formula_meaning.specs.declared.junction.Junction.TheVariants.{Conjunction, Disjunction}
-use Rattle.formula_meaning.specs.Shape.{IsQuantifierFree, AreQuantifierFree}
-use Rattle.formula_meaning.specs.Tree.{Tree}
+use Rattle.logic_meaning.specs.Context.{Context}
+use Rattle.logic_meaning.specs.Formula.{Formula, Formulas, Yes, No, One, Not, And, Or, Impl, Repl, Equiv, Ex, All, none, also}
+use Rattle.logic_meaning.specs.Atom.{Atom}
+use Rattle.logic_meaning.specs.Fold.{from_pieces}
+use Rattle.logic_meaning.specs.TurnedJunction.{turned_junction}
+use Rattle.logic_meaning.specs.declared.junction.Junction.{Junction}
+use Rattle.logic_meaning.specs.declared.junction.Junction.TheVariants.{Conjunction, Disjunction}
+use Rattle.logic_meaning.specs.Shape.{IsQuantifierFree, AreQuantifierFree}
+use Rattle.logic_meaning.specs.Tree.{Tree}
 use Rattle.formula_tree.specs.declared.shape.Shape.{Shape}
 use Rattle.formula_tree.specs.Trees.{members}
 use Rattle.formula_tree.specs.Shapes.{tree_over}
 use Rattle.formula_tree.specs.Makers.{IsMade, Keeps}
-use Rattle.formula_tree.specs.Quantified.{has_quantifier, some_quantifier}
+use Rattle.logic_meaning.specs.Quantified.{has_quantifier, some_quantifier}
 use Rattle.formula_store.specs.declared.id.FormulaId.{FormulaId}
 use Rattle.formula_store.specs.Nodes.{tree, IsId}
 use Rattle.formula_store.proofs.Marked.{all_joined}
-use Rattle.simplified_formulas.specs.AtomsFirst.{ones}
-use Rattle.clean_forms.specs.Ways.{dual, line_form, line_forms, form_of_lines}
-use Rattle.simplified_formulas.specs.AtomKit.{atom_kit}
-use Rattle.clean_forms.specs.Plain.{literals}
-use Rattle.clean_forms.specs.Lines.{clean_lines}
-use Rattle.clean_forms.specs.Counts.{sizes}
-use Rattle.clean_forms.specs.Laws.{IsDistributable, cleaned}
-use Rattle.clean_forms.proofs.Counts.{sizes_plain}
+use Rattle.logic_meaning.specs.AtomsFirst.{ones}
+use Rattle.logic_meaning.specs.Ways.{dual, line_form, line_forms, form_of_lines}
+use Rattle.shape_theory.specs.AtomKit.{atom_kit}
+use Rattle.logic_meaning.specs.PlainForms.{literals}
+use Rattle.shape_theory.specs.Lines.{clean_lines}
+use Rattle.shape_theory.specs.Counts.{sizes}
+use Rattle.shape_theory.specs.CleanFormsLaws.{IsDistributable, cleaned}
+use Rattle.shape_theory.proofs.Counts.{sizes_plain}
 use Rattle.normal_forms.specs.declared.sizes.Sizes.{Sizes}
 use Rattle.normal_forms.specs.Shapes.{neutral_shape, joined_shape}
 use Rattle.normal_forms.specs.Sizes.{most, capped}

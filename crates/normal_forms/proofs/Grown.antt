@@ -1,9 +1,9 @@
 -- Lists of atoms stay as formulas are added to the store.
 use Rattle.std.proofs.Common.{◌≡◌, List, [], ◌∷◌, refl, sym, ap, ◌∙◌, subst}
-use Rattle.formula_meaning.specs.Context.{Context}
-use Rattle.formula_meaning.specs.Formula.{One}
-use Rattle.formula_meaning.specs.Atom.{Atom}
-use Rattle.atom_merging.specs.Computed.{IsNormalWithin}
+use Rattle.logic_meaning.specs.Context.{Context}
+use Rattle.logic_meaning.specs.Formula.{One}
+use Rattle.logic_meaning.specs.Atom.{Atom}
+use Rattle.normal_atoms.specs.Computed.{IsNormalWithin}
 use Rattle.formula_tree.specs.declared.shape.Shape.{Shape}
 use Rattle.formula_tree.specs.Makers.{IsMade, Keeps}
 use Rattle.formula_store.specs.declared.id.FormulaId.{FormulaId}

@@ -3,22 +3,22 @@ use Rattle.std.proofs.Common.{◌≡◌, ℕ, zero, suc, ◌+◌, ◌<◌, Optio
 use Rattle.std.specs.Prelude.{remove}
 use Rattle.std.specs.List.{AllByRecursion}
 use Rattle.std.proofs.lemmas.List.{length-map, map-append, take_more}
-use Rattle.formula_meaning.specs.Context.{Context}
-use Rattle.formula_meaning.specs.Some.{EachOf}
-use Rattle.formula_meaning.specs.Formula.{One}
-use Rattle.formula_meaning.specs.Atom.{Atom}
-use Rattle.formula_meaning.specs.declared.junction.Junction.{Junction}
-use Rattle.atom_merging.specs.Computed.{IsNormalWithin}
+use Rattle.logic_meaning.specs.Context.{Context}
+use Rattle.logic_meaning.specs.Some.{EachOf}
+use Rattle.logic_meaning.specs.Formula.{One}
+use Rattle.logic_meaning.specs.Atom.{Atom}
+use Rattle.logic_meaning.specs.declared.junction.Junction.{Junction}
+use Rattle.normal_atoms.specs.Computed.{IsNormalWithin}
 use Rattle.formula_tree.specs.declared.shape.Shape.{Shape}
 use Rattle.formula_tree.specs.Makers.{IsMade, Keeps}
 use Rattle.formula_store.specs.declared.id.FormulaId.{FormulaId}
 use Rattle.formula_store.specs.Nodes.{tree, IsId}
 use Rattle.formula_store.proofs.Marked.{all_joined, all_at}
-use Rattle.simplified_formulas.specs.Kit.{Kit}
-use Rattle.simplified_formulas.specs.AtomKit.{atom_kit}
-use Rattle.clean_forms.specs.Lines.{Alone, Void, Meets, resolved, partner, insert, insert_into, insert_all}
-use Rattle.clean_forms.proofs.Inserting.{IsPartner, partner_is}
-use Rattle.clean_forms.proofs.TreeLaws.{normal_lightly}
+use Rattle.shape_theory.specs.Kit.{Kit}
+use Rattle.shape_theory.specs.AtomKit.{atom_kit}
+use Rattle.shape_theory.specs.Lines.{Alone, Void, Meets, resolved, partner, insert, insert_into, insert_all}
+use Rattle.shape_theory.proofs.Inserting.{IsPartner, partner_is}
+use Rattle.shape_theory.proofs.CleanFormsTreeLaws.{normal_lightly}
 use Rattle.normal_forms.specs.Atoms.{atom_at, IsAtomId, AreAtomIds, atoms, IsLineIf}
 use Rattle.normal_forms.proofs.Grown.{made_atom, made_is, atom_stays, ids_stay, atoms_stay, keeps_then}
 

@@ -7,4 +7,3 @@ pub mod Capped
 pub mod Tables
 pub mod Parts
 pub mod Formed
-pub mod FromCleanForms

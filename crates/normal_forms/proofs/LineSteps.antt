@@ -3,23 +3,23 @@ use Rattle.std.proofs.Common.{◌≡◌, ℕ, zero, suc, ◌+◌, ◌<◌, eqb-t
 use Rattle.std.specs.Prelude.{◌||◌, ◌&&◌, if◌then◌else◌}
 use Rattle.std.specs.List.{AllByRecursion}
 use Rattle.std.proofs.lemmas.List.{map-append, take_more}
-use Rattle.formula_meaning.specs.Context.{Context}
-use Rattle.formula_meaning.specs.Formula.{One}
-use Rattle.formula_meaning.specs.Atom.{Atom}
-use Rattle.formula_meaning.specs.Same.{same_atom}
-use Rattle.formula_meaning.specs.declared.junction.Junction.{Junction}
-use Rattle.formula_meaning.specs.declared.junction.Junction.TheVariants.{Conjunction}
-use Rattle.formula_meaning.proofs.Same.{atom_same, atom_alike}
+use Rattle.logic_meaning.specs.Context.{Context}
+use Rattle.logic_meaning.specs.Formula.{One}
+use Rattle.logic_meaning.specs.Atom.{Atom}
+use Rattle.logic_meaning.specs.Same.{same_atom}
+use Rattle.logic_meaning.specs.declared.junction.Junction.{Junction}
+use Rattle.logic_meaning.specs.declared.junction.Junction.TheVariants.{Conjunction}
+use Rattle.formula_laws.proofs.Same.{atom_same, atom_alike}
 use Rattle.formula_tree.specs.declared.shape.Shape.{Shape}
 use Rattle.formula_tree.specs.Makers.{Keeps}
 use Rattle.formula_store.specs.declared.id.FormulaId.{FormulaId}
 use Rattle.formula_store.specs.Nodes.{tree, IsId}
 use Rattle.formula_store.proofs.Ordered.{same_id as same_number}
 use Rattle.formula_store.proofs.Same.{same_tree}
-use Rattle.simplified_formulas.specs.Kit.{Kit}
-use Rattle.simplified_formulas.specs.AtomKit.{atom_kit}
-use Rattle.clean_forms.specs.Lines as clean
-use Rattle.clean_forms.specs.Lines.{insert_all, add_if, add_line_products, add_products, joined_lines}
+use Rattle.shape_theory.specs.Kit.{Kit}
+use Rattle.shape_theory.specs.AtomKit.{atom_kit}
+use Rattle.shape_theory.specs.Lines as clean
+use Rattle.shape_theory.specs.Lines.{insert_all, add_if, add_line_products, add_products, joined_lines}
 use Rattle.normal_forms.specs.Atoms.{atom_at, IsAtomId, AreAtomIds, atoms, AreLineIds, lines, IsLineIf, AreLines, same_id, id_kit, is_within, some_within, not_above, add, add_all}
 use Rattle.normal_forms.proofs.Grown.{atoms_stay, line_ids_stay, lines_stay}
 use Rattle.normal_forms.proofs.Inserted.{some_of, none_of}

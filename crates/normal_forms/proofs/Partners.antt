@@ -2,15 +2,15 @@
 use Rattle.std.proofs.Common.{◌≡◌, ℕ, zero, suc, ◌+◌, ◌<◌, List, [], ◌∷◌, length, take, get_or, refl, ap, ◌∙◌, arith}
 use Rattle.std.specs.Prelude.{remove}
 use Rattle.std.specs.List.{AllByRecursion}
-use Rattle.formula_meaning.specs.Context.{Context}
-use Rattle.formula_meaning.specs.Atom.{Atom}
-use Rattle.formula_meaning.specs.declared.junction.Junction.{Junction}
-use Rattle.atom_merging.specs.Computed.{Settled, Into, Kept, merged}
+use Rattle.logic_meaning.specs.Context.{Context}
+use Rattle.logic_meaning.specs.Atom.{Atom}
+use Rattle.logic_meaning.specs.declared.junction.Junction.{Junction}
+use Rattle.normal_atoms.specs.Computed.{Settled, Into, Kept, merged}
 use Rattle.formula_tree.specs.declared.shape.Shape.{Shape}
 use Rattle.formula_store.specs.declared.id.FormulaId.{FormulaId}
-use Rattle.simplified_formulas.specs.AtomKit.{atom_kit}
-use Rattle.clean_forms.specs.Lines as clean
-use Rattle.clean_forms.specs.Lines.{met, Alone, Void, Meets}
+use Rattle.shape_theory.specs.AtomKit.{atom_kit}
+use Rattle.shape_theory.specs.Lines as clean
+use Rattle.shape_theory.specs.Lines.{met, Alone, Void, Meets}
 use Rattle.std.proofs.lemmas.List.{take_more}
 use Rattle.formula_store.proofs.Marked.{all_joined}
 use Rattle.normal_forms.specs.Atoms.{atom_at, atoms}

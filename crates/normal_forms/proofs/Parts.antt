@@ -4,27 +4,27 @@ use Rattle.std.specs.HashMap.{get}
 use Rattle.std.specs.List.{AllByRecursion}
 use Rattle.std.proofs.lemmas.List.{take_more, map-append}
 use Rattle.std.specs.Prelude.{Result, Ok, Err, IfOk}
-use Rattle.formula_meaning.specs.Context.{Context}
-use Rattle.formula_meaning.specs.Formula.{And, Or}
-use Rattle.formula_meaning.specs.Atom.{Atom}
-use Rattle.formula_meaning.specs.declared.junction.Junction.{Junction}
-use Rattle.formula_meaning.specs.declared.junction.Junction.TheVariants.{Conjunction, Disjunction}
-use Rattle.formula_meaning.specs.Shape.{AreQuantifierFree}
-use Rattle.formula_meaning.specs.Tree.{Tree}
-use Rattle.atom_merging.specs.Computed.{IsNormalWithin}
+use Rattle.logic_meaning.specs.Context.{Context}
+use Rattle.logic_meaning.specs.Formula.{And, Or}
+use Rattle.logic_meaning.specs.Atom.{Atom}
+use Rattle.logic_meaning.specs.declared.junction.Junction.{Junction}
+use Rattle.logic_meaning.specs.declared.junction.Junction.TheVariants.{Conjunction, Disjunction}
+use Rattle.logic_meaning.specs.Shape.{AreQuantifierFree}
+use Rattle.logic_meaning.specs.Tree.{Tree}
+use Rattle.normal_atoms.specs.Computed.{IsNormalWithin}
 use Rattle.formula_tree.specs.declared.shape.Shape.{Shape}
 use Rattle.formula_tree.specs.Trees.{members}
 use Rattle.formula_tree.specs.Makers.{Keeps}
 use Rattle.formula_store.specs.declared.id.FormulaId.{FormulaId}
 use Rattle.formula_store.specs.Nodes.{tree, IsId}
-use Rattle.simplified_formulas.specs.Orderly.{AreOrderly}
-use Rattle.simplified_formulas.specs.AtomKit.{atom_kit}
-use Rattle.clean_forms.specs.Ways.{is_same}
-use Rattle.clean_forms.specs.Plain.{of_none}
-use Rattle.clean_forms.specs.Lines.{joined_lines, clean_lines, more_clean_lines}
-use Rattle.clean_forms.specs.Counts.{sizes}
-use Rattle.clean_forms.specs.Laws.{IsDistributable}
-use Rattle.clean_forms.proofs.Counts.{few_decide}
+use Rattle.shape_theory.specs.Orderly.{AreOrderly}
+use Rattle.shape_theory.specs.AtomKit.{atom_kit}
+use Rattle.logic_meaning.specs.Ways.{is_same}
+use Rattle.logic_meaning.specs.PlainForms.{of_none}
+use Rattle.shape_theory.specs.Lines.{joined_lines, clean_lines, more_clean_lines}
+use Rattle.shape_theory.specs.Counts.{sizes}
+use Rattle.shape_theory.specs.CleanFormsLaws.{IsDistributable}
+use Rattle.shape_theory.proofs.Counts.{few_decide}
 use Rattle.normal_forms.specs.declared.sizes.Sizes.{Sizes}
 use Rattle.normal_forms.specs.Atoms.{same_id, lines, AreLines}
 use Rattle.normal_forms.specs.Sizes.{most, capped, Table, or_nothing, IsTold}

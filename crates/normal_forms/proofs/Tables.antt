@@ -3,13 +3,13 @@ use Rattle.std.proofs.Common.{◌≡◌, Bool, true, false, cond, List, [], ◌�
 use Rattle.std.specs.HashMap.{get}
 use Rattle.std.specs.List.{AllByRecursion}
 use Rattle.std.specs.Cmp.{unsigned_Decides}
-use Rattle.formula_meaning.specs.declared.junction.Junction.{Junction}
+use Rattle.logic_meaning.specs.declared.junction.Junction.{Junction}
 use Rattle.formula_tree.specs.declared.shape.Shape.{Shape}
 use Rattle.formula_tree.specs.Makers.{Keeps}
 use Rattle.formula_store.specs.declared.id.FormulaId.{FormulaId}
 use Rattle.formula_store.specs.Nodes.{tree, IsId}
 use Rattle.formula_store.proofs.Ordered.{same_id as same_number}
-use Rattle.clean_forms.specs.Counts.{sizes, nothing_sizes, more_sizes}
+use Rattle.shape_theory.specs.Counts.{sizes, nothing_sizes, more_sizes}
 use Rattle.normal_forms.specs.declared.sizes.Sizes.{Sizes}
 use Rattle.normal_forms.specs.Atoms.{same_id}
 use Rattle.normal_forms.specs.Sizes.{capped, all_joined, Table, IsThere, or_nothing, sizes_at, IsTold}

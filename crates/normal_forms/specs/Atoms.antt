@@ -1,17 +1,17 @@
 -- Lists of atoms of a store, by the ids of the atoms.
 use Rattle.std.specs.Prelude.{◌≡◌, pos, nat_eq, Bool, false, Option, Some, None, List, [], map}
 use Rattle.std.specs.List.{AllByRecursion}
-use Rattle.formula_meaning.specs.Context.{Context}
-use Rattle.formula_meaning.specs.Formula.{One}
-use Rattle.formula_meaning.specs.Atom.{Atom, Compare, Equals}
-use Rattle.formula_meaning.specs.declared.junction.Junction.TheVariants.{Conjunction}
-use Rattle.formula_meaning.specs.Tree.{Tree}
-use Rattle.atom_merging.specs.Computed.{Kept, IsNormalWithin}
+use Rattle.logic_meaning.specs.Context.{Context}
+use Rattle.logic_meaning.specs.Formula.{One}
+use Rattle.logic_meaning.specs.Atom.{Atom, Compare, Equals}
+use Rattle.logic_meaning.specs.declared.junction.Junction.TheVariants.{Conjunction}
+use Rattle.logic_meaning.specs.Tree.{Tree}
+use Rattle.normal_atoms.specs.Computed.{Kept, IsNormalWithin}
 use Rattle.formula_tree.specs.declared.shape.Shape.{Shape}
 use Rattle.formula_store.specs.declared.id.FormulaId.{FormulaId}
 use Rattle.formula_store.specs.Nodes.{tree, IsId}
-use Rattle.simplified_formulas.specs.Kit.{Kit}
-use Rattle.clean_forms.specs.Lines as clean
+use Rattle.shape_theory.specs.Kit.{Kit}
+use Rattle.shape_theory.specs.Lines as clean
 
 -- the atom, where the formula is one
 abbrev pub atom_in : Tree → Atom

@@ -3,5 +3,3 @@ pub mod Merging
 pub mod Sizes
 pub mod Parts
 pub mod Shapes
-pub mod FromCleanForms
-pub mod FromSimplifiedTexts

@@ -1,16 +1,16 @@
 -- What becomes of an atom beside the atoms of an inner list, by their ids.
 use Rattle.std.specs.Prelude.{◌≡◌, ℕ, ◌<◌, List, [], ◌∷◌, Option, None, Some, length, remove}
-use Rattle.formula_meaning.specs.Context.{Context}
-use Rattle.formula_meaning.specs.Form.{Term}
-use Rattle.formula_meaning.specs.Atom.{Atom}
-use Rattle.formula_meaning.specs.declared.junction.Junction.{Junction}
-use Rattle.atom_normal.specs.Atoms.{atom_of, IsWellFormed}
-use Rattle.atom_merging.specs.declared.answers.Merged.{Merged}
-use Rattle.atom_merging.specs.declared.answers.Merged.TheVariants as answer_is
+use Rattle.logic_meaning.specs.Context.{Context}
+use Rattle.logic_meaning.specs.Form.{Term}
+use Rattle.logic_meaning.specs.Atom.{Atom}
+use Rattle.logic_meaning.specs.declared.junction.Junction.{Junction}
+use Rattle.normal_atoms.specs.Atoms.{atom_of, IsWellFormed}
+use Rattle.normal_atoms.specs.declared.answers.Merged.{Merged}
+use Rattle.normal_atoms.specs.declared.answers.Merged.TheVariants as answer_is
 use Rattle.formula_tree.specs.declared.shape.Shape.{Shape}
 use Rattle.formula_store.specs.declared.id.FormulaId.{FormulaId}
-use Rattle.simplified_formulas.specs.AtomKit.{atom_kit}
-use Rattle.clean_forms.specs.Lines as clean
+use Rattle.shape_theory.specs.AtomKit.{atom_kit}
+use Rattle.shape_theory.specs.Lines as clean
 use Rattle.normal_forms.specs.declared.merging.Met.{Met}
 use Rattle.normal_forms.specs.declared.merging.Met.TheVariants as met_is
 use Rattle.normal_forms.specs.Atoms.{atom_at, atoms}

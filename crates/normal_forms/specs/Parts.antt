@@ -1,16 +1,16 @@
 -- What the lists of a formula of the store are made of.
 use Rattle.std.specs.Prelude.{◌≡◌, ◌<◌, Bool, List, [], ◌∷◌, map}
 use Rattle.std.specs.List.{AllByRecursion}
-use Rattle.formula_meaning.specs.Context.{Context}
-use Rattle.formula_meaning.specs.declared.junction.Junction.{Junction}
+use Rattle.logic_meaning.specs.Context.{Context}
+use Rattle.logic_meaning.specs.declared.junction.Junction.{Junction}
 use Rattle.formula_tree.specs.declared.shape.Shape.{Shape}
 use Rattle.formula_tree.specs.Trees.{members}
 use Rattle.formula_store.specs.declared.id.FormulaId.{FormulaId}
 use Rattle.formula_store.specs.Nodes.{tree}
-use Rattle.simplified_formulas.specs.AtomKit.{atom_kit}
-use Rattle.clean_forms.specs.Plain.{of_none}
-use Rattle.clean_forms.specs.Lines.{clean_lines, more_clean_lines}
-use Rattle.clean_forms.specs.Laws.{IsDistributable}
+use Rattle.shape_theory.specs.AtomKit.{atom_kit}
+use Rattle.logic_meaning.specs.PlainForms.{of_none}
+use Rattle.shape_theory.specs.Lines.{clean_lines, more_clean_lines}
+use Rattle.shape_theory.specs.CleanFormsLaws.{IsDistributable}
 use Rattle.normal_forms.specs.declared.clean.Part.{Part}
 use Rattle.normal_forms.specs.declared.clean.Part.TheVariants as part_is
 use Rattle.normal_forms.specs.Atoms.{atom_at, IsAtomId}

@@ -3,12 +3,12 @@ use Rattle.std.specs.Prelude.{◌≡◌, ℕ, min, Bool, false, Option, Some, No
 use Rattle.std.specs.declared.hash.FoldHasher.{FoldHasher}
 use Rattle.std.specs.declared.hash.BuildHasherDefault.{BuildHasherDefault}
 use Rattle.std.specs.HashMap.{get, HashMap}
-use Rattle.formula_meaning.specs.declared.junction.Junction.{Junction}
+use Rattle.logic_meaning.specs.declared.junction.Junction.{Junction}
 use Rattle.formula_tree.specs.declared.shape.Shape.{Shape}
 use Rattle.formula_store.specs.declared.id.FormulaId.{FormulaId}
 use Rattle.formula_store.specs.Nodes.{tree, IsId}
-use Rattle.clean_forms.specs.Counts as counts
-use Rattle.clean_forms.specs.Counts.{nothing_sizes, joined_sizes, sizes}
+use Rattle.shape_theory.specs.Counts as counts
+use Rattle.shape_theory.specs.Counts.{nothing_sizes, joined_sizes, sizes}
 use Rattle.normal_forms.specs.declared.sizes.Sizes.{Sizes}
 use Rattle.normal_forms.specs.Atoms.{same_id}
 

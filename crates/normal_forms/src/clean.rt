@@ -2,14 +2,14 @@
 
 ghost use Rattle.std.specs.Prelude.{◌≡◌, ◌<◌, [], ◌∷◌, IfOk, IfErr, map};
 ghost use Rattle.std.specs.List.{AllByRecursion};
-ghost use Rattle.atom_normal.specs.Atoms.{context_of};
+ghost use Rattle.normal_atoms.specs.Atoms.{context_of};
 ghost use Rattle.formula_tree.specs.Trees.{members};
 ghost use Rattle.formula_tree.specs.Makers.{Keeps};
 ghost use Rattle.formula_store.specs.Nodes.{tree, IsId};
-ghost use Rattle.simplified_formulas.specs.AtomKit.{atom_kit};
-ghost use Rattle.clean_forms.specs.Plain.{of_none};
-ghost use Rattle.clean_forms.specs.Lines.{clean_lines, more_clean_lines};
-ghost use Rattle.clean_forms.specs.Laws.{IsDistributable};
+ghost use Rattle.shape_theory.specs.AtomKit.{atom_kit};
+ghost use Rattle.logic_meaning.specs.PlainForms.{of_none};
+ghost use Rattle.shape_theory.specs.Lines.{clean_lines, more_clean_lines};
+ghost use Rattle.shape_theory.specs.CleanFormsLaws.{IsDistributable};
 ghost use Rattle.normal_forms.specs.Atoms.{AreLines};
 ghost use Rattle.normal_forms.specs.Sizes.{IsTold};
 ghost use Rattle.normal_forms.specs.Parts.{IsPart};
@@ -18,10 +18,10 @@ use crate::absorption::Lines;
 use crate::inner::is_inner;
 use crate::lines::joined;
 use crate::sizes::Table;
-use atom_normal::Context;
-use formula_meaning::Junction;
 use formula_store::{FormulaId, Store};
 use formula_tree::{Ids, Shape};
+use logic_meaning::Junction;
+use normal_atoms::Context;
 use std::alloc::{AllocError, Global};
 
 /// What the lists of a formula are made of: those of a constant, one atom, or the lists of its members.

@@ -1,7 +1,7 @@
 ghost use Rattle.std.specs.Prelude.{◌≡◌};
-ghost use Rattle.clean_forms.specs.Ways.{is_same};
+ghost use Rattle.logic_meaning.specs.Ways.{is_same};
 
-use formula_meaning::Junction;
+use logic_meaning::Junction;
 
 /// Whether members that are joined by this junction are joined as the atoms of an inner list.
 pub(crate) fn is_inner(inner: Junction, junction: Junction) -> bool

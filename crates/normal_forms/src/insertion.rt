@@ -2,19 +2,19 @@
 
 ghost use Rattle.std.specs.Prelude.{◌≡◌, Some, IfOk, IfErr};
 ghost use Rattle.std.specs.List.{AllByRecursion};
-ghost use Rattle.formula_meaning.specs.Formula.{One};
-ghost use Rattle.atom_normal.specs.Atoms.{context_of, atom_of, IsWellFormed};
+ghost use Rattle.logic_meaning.specs.Formula.{One};
+ghost use Rattle.normal_atoms.specs.Atoms.{context_of, atom_of, IsWellFormed};
 ghost use Rattle.formula_tree.specs.Makers.{IsMade, Keeps};
 ghost use Rattle.formula_store.specs.Nodes.{tree, IsId};
-ghost use Rattle.simplified_formulas.specs.AtomKit.{atom_kit};
-ghost use Rattle.clean_forms.specs.Lines.{insert_into, insert_all};
+ghost use Rattle.shape_theory.specs.AtomKit.{atom_kit};
+ghost use Rattle.shape_theory.specs.Lines.{insert_into, insert_all};
 ghost use Rattle.normal_forms.specs.Atoms.{atom_at, atoms, IsAtomId, IsLineIf};
 
 use crate::merging::{Met, partner};
-use atom_normal::{Atom, Context};
-use formula_meaning::Junction;
 use formula_store::{FormulaId, Store};
 use formula_tree::{Ids, Maker, Shape};
+use logic_meaning::Junction;
+use normal_atoms::{Atom, Context};
 use std::alloc::{AllocError, Global};
 
 // The id of an atom.

@@ -2,18 +2,18 @@
 
 ghost use Rattle.std.specs.Prelude.{◌≡◌, Some, [], IfOk, IfErr, OnOk};
 ghost use Rattle.std.specs.List.{AllByRecursion};
-ghost use Rattle.atom_normal.specs.Atoms.{context_of};
+ghost use Rattle.normal_atoms.specs.Atoms.{context_of};
 ghost use Rattle.formula_tree.specs.Makers.{Keeps};
 ghost use Rattle.formula_store.specs.Nodes.{tree, IsId};
-ghost use Rattle.simplified_formulas.specs.AtomKit.{atom_kit};
-ghost use Rattle.clean_forms.specs.Lines.{insert_all, add_if, add_line_products, add_products, joined_lines};
+ghost use Rattle.shape_theory.specs.AtomKit.{atom_kit};
+ghost use Rattle.shape_theory.specs.Lines.{insert_all, add_if, add_line_products, add_products, joined_lines};
 ghost use Rattle.normal_forms.specs.Atoms.{atoms, lines as atom_lines, IsAtomId, AreLineIds, AreLines, add_all as all_added};
 
 use crate::absorption::{Lines, add};
 use crate::insertion::product;
-use atom_normal::Context;
-use formula_meaning::Junction;
 use formula_store::{FormulaId, Store};
+use logic_meaning::Junction;
+use normal_atoms::Context;
 use std::alloc::{AllocError, Global};
 
 // Adds the atoms of two inner lists in one, unless it is settled.

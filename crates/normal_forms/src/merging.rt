@@ -2,19 +2,18 @@
 
 ghost use Rattle.std.specs.Prelude.{◌≡◌, IfOk, IfErr};
 ghost use Rattle.std.specs.List.{AllByRecursion};
-ghost use Rattle.atom_normal.specs.Atoms.{context_of, atom_of, IsWellFormed};
-ghost use Rattle.formula_meaning.specs.Formula.{One};
-ghost use Rattle.formula_meaning.specs.Atom.{form_of};
+ghost use Rattle.normal_atoms.specs.Atoms.{context_of, atom_of, IsWellFormed};
+ghost use Rattle.logic_meaning.specs.Formula.{One};
+ghost use Rattle.logic_meaning.specs.Atom.{form_of};
 ghost use Rattle.formula_store.specs.Nodes.{tree, IsId};
-ghost use Rattle.atom_merging.specs.Computed.{merged, merging_of};
+ghost use Rattle.normal_atoms.specs.Computed.{merged, merging_of};
 ghost use Rattle.normal_forms.specs.Atoms.{atom_at, IsAtomId};
 ghost use Rattle.normal_forms.specs.Merging.{IsWellMerged, MeetsAs, first_name};
 
-use atom_merging::{Merged, merge_and, merge_or};
-use atom_normal::{Atom, Context};
-use formula_meaning::Junction;
 use formula_store::{FormulaId, Store};
 use formula_tree::Shape;
+use logic_meaning::Junction;
+use normal_atoms::{Atom, Context, Merged, merge_and, merge_or};
 use std::alloc::{AllocError, Global};
 
 /// What becomes of an atom beside others: it merges with none; with the first with which it merges it settles the list; or

@@ -1,36 +1,36 @@
 //! The clean disjunctive and conjunctive forms of a formula.
 
 ghost use Rattle.std.specs.Prelude.{◌≡◌, ◌≤◌, ◌<◌, ◌↔◌, ℕ, Some, map, if◌then◌else◌, true, IfOk, IfErr, OnOk, IsErrOf};
-ghost use Rattle.formula_meaning.specs.Fold.{from_pieces};
-ghost use Rattle.formula_meaning.specs.declared.junction.Junction.TheVariants.{Conjunction, Disjunction};
+ghost use Rattle.logic_meaning.specs.Fold.{from_pieces};
+ghost use Rattle.logic_meaning.specs.declared.junction.Junction.TheVariants.{Conjunction, Disjunction};
 ghost use Rattle.formula_tree.specs.Trees.{members};
 ghost use Rattle.formula_tree.specs.Shapes.{AllIds, IsProperShape, tree_over};
 ghost use Rattle.normal_forms.specs.Shapes.{neutral_shape, joined_shape};
-ghost use Rattle.clean_forms.specs.Ways.{form_of_lines};
+ghost use Rattle.logic_meaning.specs.Ways.{form_of_lines};
 ghost use Rattle.normal_forms.specs.Atoms.{AreLineIds, lines as atom_lines};
 ghost use Rattle.std.specs.List.{AllByRecursion};
-ghost use Rattle.formula_meaning.specs.Sizes.{nodes};
-ghost use Rattle.formula_meaning.specs.Tree.{IsFree};
-ghost use Rattle.formula_meaning.specs.Equivalence.{Equivalent};
-ghost use Rattle.atom_normal.specs.Atoms.{context_of};
+ghost use Rattle.logic_meaning.specs.Sizes.{nodes};
+ghost use Rattle.logic_meaning.specs.Tree.{IsFree};
+ghost use Rattle.formula_laws.specs.Equivalence.{Equivalent};
+ghost use Rattle.normal_atoms.specs.Atoms.{context_of};
 ghost use Rattle.formula_tree.specs.Makers.{IsMade, Keeps};
-ghost use Rattle.formula_tree.specs.Quantified.{has_quantifier};
+ghost use Rattle.logic_meaning.specs.Quantified.{has_quantifier};
 ghost use Rattle.formula_store.specs.Nodes.{IsId, tree};
-ghost use Rattle.atom_normal.specs.NormalForm.{IsNormal};
-ghost use Rattle.simplified_formulas.specs.Orderly.{IsOrderly};
-ghost use Rattle.simplified_formulas.specs.Simplifiable.{IsSimplifiable};
-ghost use Rattle.clean_forms.specs.Plain.{plain_form, literals};
-ghost use Rattle.clean_forms.specs.Clean.{IsCleanForm};
-ghost use Rattle.clean_forms.specs.Laws.{IsNoLonger};
+ghost use Rattle.logic_meaning.specs.NormalForm.{IsNormal};
+ghost use Rattle.shape_theory.specs.Orderly.{IsOrderly};
+ghost use Rattle.shape_theory.specs.Simplifiable.{IsSimplifiable};
+ghost use Rattle.logic_meaning.specs.PlainForms.{plain_form, literals};
+ghost use Rattle.logic_meaning.specs.Clean.{IsCleanForm};
+ghost use Rattle.shape_theory.specs.CleanFormsLaws.{IsNoLonger};
 
 use crate::absorption::Lines;
 use crate::clean::formula_lines;
 use crate::insertion::copied;
 use crate::sizes::{all_sizes, table_sizes};
-use atom_normal::Context;
-use formula_meaning::Junction;
 use formula_store::{FormulaId, Store};
 use formula_tree::{FormError, Ids, Maker, Shape};
+use logic_meaning::Junction;
+use normal_atoms::Context;
 use std::alloc::{AllocError, Global};
 
 /// The clean disjunctive form of a formula in negation normal form: a disjunction of conjunctions of atoms, none of which

@@ -2,20 +2,20 @@
 
 ghost use Rattle.std.specs.Prelude.{◌≡◌, Some, IfOk, IfErr, map, slice_get, [], ◌∷◌};
 ghost use Rattle.std.specs.List.{AllByRecursion};
-ghost use Rattle.formula_meaning.specs.declared.junction.Junction.TheVariants.{Conjunction, Disjunction};
+ghost use Rattle.logic_meaning.specs.declared.junction.Junction.TheVariants.{Conjunction, Disjunction};
 ghost use Rattle.formula_tree.specs.declared.shape.Shape.{Shape};
 ghost use Rattle.formula_tree.specs.Shapes.{AllIds};
 ghost use Rattle.formula_store.specs.declared.id.FormulaId.{FormulaId};
 ghost use Rattle.formula_store.specs.Nodes.{IsId, tree, AreNodes};
 ghost use Rattle.formula_store.specs.Order.{IsOrder};
-ghost use Rattle.clean_forms.specs.Ways.{is_same};
-ghost use Rattle.clean_forms.specs.Counts.{nothing_sizes, is_bare, product_sizes, sum_sizes, joined_sizes, sizes};
+ghost use Rattle.logic_meaning.specs.Ways.{is_same};
+ghost use Rattle.shape_theory.specs.Counts.{nothing_sizes, is_bare, product_sizes, sum_sizes, joined_sizes, sizes};
 ghost use Rattle.normal_forms.specs.Sizes.{capped, counted, all_joined, sizes_at, IsThere, IsTold};
 
 use crate::inner::is_inner;
-use formula_meaning::Junction;
 use formula_store::{FormulaId, Store};
 use formula_tree::Shape;
+use logic_meaning::Junction;
 use std::alloc::{AllocError, Global};
 use std::collections::HashMap;
 

@@ -3,21 +3,24 @@ use Rattle.std.proofs.Common.{◌≡◌, ℕ, Bool, true, List, [], sym, ap, ◌
 use Rattle.std.specs.Prelude.{Option, Result}
 use Rattle.std.specs.declared.vec.Vec.{Vec}
 use Rattle.std.specs.declared.alloc.Global.{Global}
-use Rattle.formula_meaning.specs.Context.{Context}
-use Rattle.formula_meaning.specs.Point.{Point, Of}
-use Rattle.formula_meaning.specs.Sizes.{nodes}
-use Rattle.formula_meaning.specs.Tree.{Tree}
-use Rattle.formula_meaning.proofs.NormalShape.{normal_form_shape}
-use Rattle.atom_normal.specs.NormalForm.{negated_normal}
-use Rattle.elimination_theory.specs.Answers as meaning
-use Rattle.elimination_reference.specs.Cases.{case_sign}
-use Rattle.formula_meaning.specs.Measured.{Outcome, done, then_of, pay, within}
-use Rattle.elimination_reference.specs.PutIn.{put_in, tree_put_within}
-use Rattle.elimination_reference.specs.Reference.{branches, normal_tree}
-use Rattle.elimination_reference.specs.Sample.{chosen_steps}
-use Rattle.elimination_reference.proofs.PutMatrix.{normal_stays, put_shape, put_sign}
-use Rattle.sample_values.specs.FromPlainEngine.{Measured, Told}
-use Rattle.sample_values.specs.FromTracedCases.{Step, first_steps, steps_seen}
+use Rattle.logic_meaning.specs.Context.{Context}
+use Rattle.logic_meaning.specs.Point.{Point, Of}
+use Rattle.logic_meaning.specs.Sizes.{nodes}
+use Rattle.logic_meaning.specs.Tree.{Tree}
+use Rattle.formula_laws.proofs.NormalShape.{normal_form_shape}
+use Rattle.logic_meaning.specs.NormalForm.{negated_normal}
+use Rattle.logic_meaning.specs.Answers as meaning
+use Rattle.logic_meaning.specs.Cases.{case_sign}
+use Rattle.logic_meaning.specs.Measured.{Outcome, done, then_of, pay, within}
+use Rattle.logic_meaning.specs.PutIn.{put_in, tree_put_within}
+use Rattle.logic_meaning.specs.Reference.{branches, normal_tree}
+use Rattle.logic_meaning.specs.Sample.{chosen_steps}
+use Rattle.elimination_theory.proofs.PutMatrix.{normal_stays, put_shape, put_sign}
+use Rattle.reference_engine.specs.declared.measured.Measured.{Measured}
+use Rattle.reference_engine.specs.Told.{Told}
+use Rattle.plain_samples.specs.declared.step.Step.{Step}
+use Rattle.plain_samples.specs.First.{first_steps}
+use Rattle.plain_samples.specs.Steps.{steps_seen}
 
 module _ (c : Context) (limit : ℕ) (p : Point ℕ) (f : Tree) where
   -- what comes after the nodes are counted

@@ -4,21 +4,21 @@ use Rattle.std.proofs.Math.IntN.{ℤ, pos, negsuc}
 use Rattle.exact_numbers.specs.Divides.{content_of, gcd_of, lcm_of, euclid}
 use Rattle.exact_numbers.specs.Frac.{inverted, sum_step, product_step}
 use Rattle.exact_numbers.specs.Limit.{checked}
-use Rattle.formula_meaning.specs.Context.{Fields, Integers}
-use Rattle.formula_meaning.specs.Formula.{One, And, Ex}
-use Rattle.formula_meaning.specs.NegationNormal.{both}
-use Rattle.formula_meaning.specs.Form.{Form, coefficient, without, scale, combine, plus}
-use Rattle.formula_meaning.specs.Sorted.{gathered}
-use Rattle.formula_meaning.specs.Atom.{Relation, Below, Above, Compare, Congruent}
-use Rattle.formula_meaning.specs.Point.{Point}
-use Rattle.formula_meaning.specs.Tree.{Tree}
+use Rattle.logic_meaning.specs.Context.{Fields, Integers}
+use Rattle.logic_meaning.specs.Formula.{One, And, Ex}
+use Rattle.logic_meaning.specs.NegationNormal.{both}
+use Rattle.logic_meaning.specs.Form.{Form, coefficient, without, scale, combine, plus}
+use Rattle.logic_meaning.specs.Sorted.{gathered}
+use Rattle.logic_meaning.specs.Atom.{Relation, Below, Above, Compare, Congruent}
+use Rattle.logic_meaning.specs.Point.{Point}
+use Rattle.logic_meaning.specs.Tree.{Tree}
 use Rattle.elimination_theory.specs.FieldsExample.{named, difference, multiple_of}
-use Rattle.elimination_theory.specs.FieldsPoints.{form_over}
-use Rattle.linear_forms.specs.Terms.{value_steps, total_steps}
-use Rattle.linear_forms.specs.Reduction.{quotient, residue_form}
-use Rattle.atom_normal.specs.NormalForm.{normal_atom}
-use Rattle.formula_meaning.specs.Measured.{done}
-use Rattle.sample_reference.specs.Sample.{reference_sample}
+use Rattle.logic_meaning.specs.FieldsPoints.{form_over}
+use Rattle.logic_meaning.specs.Terms.{value_steps, total_steps}
+use Rattle.logic_meaning.specs.Reduction.{quotient, residue_form}
+use Rattle.logic_meaning.specs.NormalForm.{normal_atom}
+use Rattle.logic_meaning.specs.Measured.{done}
+use Rattle.logic_meaning.specs.ReferenceSample.{reference_sample}
 use Rattle.sample_reference.specs.TrueSample.{closed_sample}
 
 abbrev atom : Relation → Form → Tree

@@ -1,3 +1,12 @@
 pub mod Choosing
 pub mod Examples
 pub mod Telling
+pub mod TracedCasesChoosing
+pub mod Walking
+pub mod Rooting
+pub mod Finding
+pub mod Leasts
+pub mod Classes
+pub mod OneDenominator
+pub mod Placing
+pub mod SampleValuesLeasts

@@ -5,18 +5,19 @@ use Rattle.std.specs.declared.vec.Vec.{Vec}
 use Rattle.std.specs.declared.alloc.Global.{Global}
 use Rattle.std.specs.declared.result.Result.TheVariants.{Ok, Err}
 use Rattle.exact_numbers.specs.declared.fraction.Fraction.{Fraction}
-use Rattle.formula_meaning.specs.Context.{Context}
-use Rattle.elimination_theory.specs.Answers.{Step}
-use Rattle.formula_meaning.specs.Measured.{Outcome, stopped, done, then_of}
-use Rattle.formula_meaning.specs.Giving.{Gives}
-use Rattle.elimination_reference.specs.Reference.{Branch}
-use Rattle.elimination_reference.specs.Sample.{first_true}
-use Rattle.linear_forms.specs.declared.form.VarId.{VarId}
-use Rattle.sample_values.specs.FromPlainEngine.{Measured, StopsWith, Told}
-use Rattle.sample_values.proofs.FromPlainEngine.{told_then}
-use Rattle.sample_reference.specs.Sample.{sampled}
+use Rattle.logic_meaning.specs.Context.{Context}
+use Rattle.logic_meaning.specs.Answers.{Step}
+use Rattle.logic_meaning.specs.Measured.{Outcome, stopped, done, then_of}
+use Rattle.formula_laws.specs.Giving.{Gives}
+use Rattle.logic_meaning.specs.Reference.{Branch}
+use Rattle.logic_meaning.specs.Sample.{first_true}
+use Rattle.logic_meaning.specs.declared.form.VarId.{VarId}
+use Rattle.reference_engine.specs.declared.measured.Measured.{Measured}
+use Rattle.reference_engine.specs.Told.{StopsWith, Told}
+use Rattle.reference_engine.proofs.Seen.{told_then}
+use Rattle.logic_meaning.specs.ReferenceSample.{sampled}
 use Rattle.sample_reference.specs.Seen.{sample_of}
-use Rattle.sample_values.specs.FromTracedCases.{first_steps}
+use Rattle.plain_samples.specs.First.{first_steps}
 
 module _ {A B : Type 0} (view : A → B) where
   pub told_made : (r : Result A Measured) (cost : ℕ) (o : Outcome (B × ℕ)) → Told view r cost o → IfOk r (λ a. (n : ℕ) × (o ≡ done (view a, n)))

@@ -1,22 +1,24 @@
 // The steps of the first case that is true at a point.
 ghost use Rattle.std.specs.Prelude.{◌≡◌, ℕ, IfOk, IfErr};
-ghost use Rattle.formula_meaning.specs.Every.{Every};
-ghost use Rattle.formula_meaning.specs.Point.{Of};
-ghost use Rattle.atom_normal.specs.Atoms.{context_of};
-ghost use Rattle.atom_normal.specs.NormalForm.{IsNormal};
-ghost use Rattle.formula_meaning.specs.Measured.{done};
-ghost use Rattle.elimination_reference.specs.Sample.{chosen_steps};
+ghost use Rattle.logic_meaning.specs.Every.{Every};
+ghost use Rattle.logic_meaning.specs.Point.{Of};
+ghost use Rattle.normal_atoms.specs.Atoms.{context_of};
+ghost use Rattle.logic_meaning.specs.NormalForm.{IsNormal};
+ghost use Rattle.logic_meaning.specs.Measured.{done};
+ghost use Rattle.logic_meaning.specs.Sample.{chosen_steps};
 ghost use Rattle.formula_tree.specs.Trees.{tree_of};
 ghost use Rattle.linear_forms.specs.Values.{point_of};
 ghost use Rattle.nnf_trees.specs.Nnfs.{HasModulus};
-ghost use Rattle.sample_values.specs.FromPlainEngine.{StopsWith};
-ghost use Rattle.sample_values.specs.FromTracedCases.{steps_seen, AreSteps};
+ghost use Rattle.reference_engine.specs.Told.{StopsWith};
+ghost use Rattle.plain_samples.specs.Steps.{steps_seen, AreSteps};
 
-use atom_normal::Context;
+use crate::first::true_steps;
+use crate::step::Step;
 use formula_tree::Tree;
 use linear_forms::Values;
 use nnf_trees::{form_sizes, normal_form};
-use sample_values::{Measured, Setting, Step, is_asked, pay, put_in, true_steps};
+use normal_atoms::Context;
+use reference_engine::{Measured, Setting, is_asked, pay, put_in};
 use std::alloc::Global;
 
 /// The steps that lead to the first case whose guard is true at the point, that of the outermost name first: the nodes of the

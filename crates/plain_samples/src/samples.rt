@@ -1,27 +1,31 @@
 // Samples of formulas.
 ghost use Rattle.std.specs.Prelude.{◌≡◌, ℕ, IfOk, IfErr};
-ghost use Rattle.formula_meaning.specs.Every.{Every};
-ghost use Rattle.formula_meaning.specs.Point.{Of};
-ghost use Rattle.formula_meaning.specs.Tree.{IsFree};
-ghost use Rattle.atom_normal.specs.Atoms.{context_of};
-ghost use Rattle.atom_normal.specs.NormalForm.{IsNormal};
-ghost use Rattle.formula_meaning.specs.Measured.{done};
+ghost use Rattle.logic_meaning.specs.Every.{Every};
+ghost use Rattle.logic_meaning.specs.Point.{Of};
+ghost use Rattle.logic_meaning.specs.Tree.{IsFree};
+ghost use Rattle.normal_atoms.specs.Atoms.{context_of};
+ghost use Rattle.logic_meaning.specs.NormalForm.{IsNormal};
+ghost use Rattle.logic_meaning.specs.Measured.{done};
 ghost use Rattle.formula_tree.specs.Trees.{tree_of};
 ghost use Rattle.linear_forms.specs.Values.{point_of};
 ghost use Rattle.nnf_trees.specs.Nnfs.{HasModulus};
-ghost use Rattle.sample_values.specs.FromPlainEngine.{StopsWith, Told};
-ghost use Rattle.sample_reference.specs.Sample.{sampled, reference_sample};
+ghost use Rattle.reference_engine.specs.Told.{StopsWith, Told};
+ghost use Rattle.logic_meaning.specs.ReferenceSample.{sampled, reference_sample};
 ghost use Rattle.sample_reference.specs.TrueSample.{closed_sample, IsTrueSample};
 ghost use Rattle.sample_reference.specs.Seen.{sample_of};
-ghost use Rattle.sample_reference.specs.Values.{origin};
-ghost use Rattle.sample_values.specs.FromTracedCases.{steps_seen, AreSteps};
+ghost use Rattle.logic_meaning.specs.Values.{origin};
+ghost use Rattle.plain_samples.specs.Steps.{steps_seen, AreSteps};
 
 use crate::chosen::chosen_steps;
-use atom_normal::Context;
+use crate::first::first_true_steps;
+use crate::step::Step;
+use crate::steps::step_values;
 use exact_numbers::Fraction;
 use formula_tree::Tree;
-use linear_forms::{Values, VarId};
-use sample_values::{Measured, Step, first_true_steps, step_values};
+use linear_forms::Values;
+use logic_meaning::VarId;
+use normal_atoms::Context;
+use reference_engine::Measured;
 use std::alloc::Global;
 
 // The values of the steps, where there are some. `Overflow` comes exactly where a number that is formed passes 2^127 - 1, else

@@ -13,11 +13,11 @@ use Rattle.exact_numbers.proofs.Order.{by_less, mul_positive, factor_positive}
 use Rattle.exact_numbers.proofs.LeastMultiple.{exact_div}
 use Rattle.exact_numbers.proofs.GreatestDivisor.{gcd_is, gcd_positive}
 use Rattle.exact_numbers.proofs.FractionRule.{lowest_proper}
-use Rattle.point_grid.specs.declared.axis.Axis.{Axis}
-use Rattle.point_grid.specs.declared.scale.Scale.{Scale}
-use Rattle.point_grid.specs.Counts.{count_of}
+use Rattle.program_meaning.specs.declared.axis.Axis.{Axis}
+use Rattle.program_meaning.specs.declared.scale.Scale.{Scale}
+use Rattle.program_meaning.specs.Counts.{count_of}
 use Rattle.point_grid.specs.ScaleWithin.{IsWithin}
-use Rattle.point_grid.specs.Grids.{lowest_of, over, scale_of, AxisPasses, AxisFits}
+use Rattle.program_meaning.specs.GridPoints.{lowest_of, over, scale_of, AxisPasses, AxisFits}
 use Rattle.point_grid.specs.Steps.{IsRising}
 
 pub count_below : (span : ℤ) (t : ℕ) → span <ℤ pos 0 → count_of span t ≡ 0

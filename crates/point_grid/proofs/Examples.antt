@@ -1,15 +1,14 @@
 -- Grids worked by hand.
-use Rattle.std.proofs.Common.{◌≡◌, ℕ, List, [], ◌∷◌, map, refl}
+use Rattle.std.proofs.Common.{◌≡◌, ℕ, List, [], ◌∷◌, map, refl, lit<, arith, ◌<◌, ◌^◌}
 use Rattle.std.proofs.Math.IntN.{ℤ, pos, negsuc}
-use Rattle.point_grid.specs.declared.scale.Scale.{Scale}
-use Rattle.point_grid.specs.Scales.{run_of, choices, choice, put, size}
-use Rattle.point_grid.specs.Counts.{count_of}
-use Rattle.std.proofs.Common.{lit<, arith, ◌<◌, ◌^◌}
+use Rattle.program_meaning.specs.declared.scale.Scale.{Scale}
+use Rattle.program_meaning.specs.Scales.{run_of, choices, choice, put, size}
+use Rattle.program_meaning.specs.Counts.{count_of}
 use Rattle.std.proofs.lemmas.Int.{ints}
 use Rattle.exact_numbers.specs.declared.fraction.Fraction.{Fraction}
 use Rattle.exact_numbers.specs.Divides.{lcm_of, gcd_of, euclid}
-use Rattle.point_grid.specs.declared.axis.Axis.{Axis}
-use Rattle.point_grid.specs.Grids.{grid_of, multiple_of, multiple_with, scale_of}
+use Rattle.program_meaning.specs.declared.axis.Axis.{Axis}
+use Rattle.program_meaning.specs.GridPoints.{grid_of, multiple_of, multiple_with, scale_of}
 
 scale : ℕ → ℤ → ℕ → ℕ → Scale
 scale name low step count = record { name = record { number = name }; low = low; step = step; count = count }

@@ -3,9 +3,9 @@ use Rattle.std.proofs.Common.{List, [], ◌∷◌, inl, inr, arith}
 use Rattle.std.proofs.Math.IntN.{ℤ}
 use Rattle.std.specs.List.{AllByRecursion}
 use Rattle.exact_numbers.specs.Limit.{InLimit, PastLimit}
-use Rattle.formula_meaning.specs.Some.{SomeOf}
-use Rattle.point_grid.specs.declared.axis.Axis.{Axis}
-use Rattle.point_grid.specs.Grids.{over, span_of, common, AxisPasses, AxisFits, GridPasses, GridFits}
+use Rattle.logic_meaning.specs.Some.{SomeOf}
+use Rattle.program_meaning.specs.declared.axis.Axis.{Axis}
+use Rattle.program_meaning.specs.GridPoints.{over, span_of, common, AxisPasses, AxisFits, GridPasses, GridFits}
 
 not_both : (z : ℤ) → InLimit z → PastLimit z → ⊥
 not_both z h p = omega arith

@@ -11,8 +11,8 @@ use Rattle.exact_numbers.proofs.Limits.{checked_past, checked_none, checked_some
 use Rattle.exact_numbers.proofs.Divisibility.{divides_same, divides_trans, divisor_at_most}
 use Rattle.exact_numbers.proofs.LeastMultiple.{lcm_is}
 use Rattle.exact_numbers.proofs.FractionRule.{lowest_proper}
-use Rattle.point_grid.specs.declared.axis.Axis.{Axis}
-use Rattle.point_grid.specs.Grids.{lowest_of, multiple_with, multiple_of, common}
+use Rattle.program_meaning.specs.declared.axis.Axis.{Axis}
+use Rattle.program_meaning.specs.GridPoints.{lowest_of, multiple_with, multiple_of, common}
 use Rattle.point_grid.specs.Steps.{IsRising, HasSteps}
 
 -- n is a positive multiple of m

@@ -6,9 +6,9 @@ use Rattle.std.proofs.lemmas.Int.{ints}
 use Rattle.std.proofs.lemmas.Nat.{div_below}
 use Rattle.std.proofs.lemmas.List.{length-map}
 use Rattle.std.proofs.lemmas.Option.{slice_get-map}
-use Rattle.point_grid.specs.declared.scale.Scale.{Scale}
-use Rattle.point_grid.specs.Scales.{run_of, numbers_of, number_of, put, choices, choice, size}
-use Rattle.point_grid.specs.Frames.{Frame, point_over, points_of}
+use Rattle.program_meaning.specs.declared.scale.Scale.{Scale}
+use Rattle.program_meaning.specs.Scales.{run_of, numbers_of, number_of, put, choices, choice, size}
+use Rattle.program_meaning.specs.Frames.{Frame, point_over, points_of}
 use Rattle.point_grid.specs.FramePoints.{point_at}
 
 suc_times : (i t : ℕ) → suc i * t ≡ t + i * t

@@ -5,20 +5,20 @@ use Rattle.std.specs.Prelude.{slice_get, flat_map, unsigned_abs}
 use Rattle.std.specs.Int.{div_ceil}
 use Rattle.std.proofs.lemmas.Grind.{div_ceil_times}
 use Rattle.std.proofs.lemmas.Option.{slice_get_within}
-use Rattle.formula_meaning.specs.Atom.{form_of}
-use Rattle.formula_meaning.specs.Point.{Point}
-use Rattle.formula_meaning.specs.Tree.{Tree}
-use Rattle.linear_forms.specs.Terms.{ValuePasses}
+use Rattle.logic_meaning.specs.Atom.{form_of}
+use Rattle.logic_meaning.specs.Point.{Point}
+use Rattle.logic_meaning.specs.Tree.{Tree}
+use Rattle.logic_meaning.specs.Terms.{ValuePasses}
 use Rattle.linear_forms.specs.Values.{Numbers, number_at, point_of}
 use Rattle.formula_store.specs.Nodes.{tree}
 use Rattle.formula_store.specs.Truths.{Tells, SomeAtomPasses}
 use Rattle.qe_parallel.specs.Fanned.{AnswerAll, AreAnswers}
 use Rattle.qe_parallel.proofs.Runs.{begun, together}
-use Rattle.point_grid.specs.Scales.{choice, size}
-use Rattle.point_grid.specs.Frames.{Frame, points_of}
+use Rattle.program_meaning.specs.Scales.{choice, size}
+use Rattle.program_meaning.specs.Frames.{Frame, points_of}
 use Rattle.point_grid.specs.FramePoints.{point_at}
 use Rattle.point_grid.specs.Truths.{Task, IsTruthAt, IsTruthList, AreRun, start_of}
-use Rattle.point_grid.specs.PointPasses.{SomePointPasses}
+use Rattle.program_meaning.specs.PointPasses.{SomePointPasses}
 use Rattle.point_grid.proofs.Numbering.{points_are_counted, point_place}
 
 -- ---- one point

@@ -12,9 +12,9 @@ use Rattle.exact_numbers.proofs.Ring.{mul_assoc, mul_comm}
 use Rattle.exact_numbers.proofs.Divisibility.{divides_trans}
 use Rattle.exact_numbers.proofs.LeastMultiple.{exact_div, lcm_is}
 use Rattle.exact_numbers.proofs.FractionRule.{lowest_proper, lowest_value}
-use Rattle.point_grid.specs.declared.axis.Axis.{Axis}
-use Rattle.point_grid.specs.Counts.{count_of}
-use Rattle.point_grid.specs.Grids.{lowest_of, over, span_of, scale_of, multiple_with, multiple_of, common}
+use Rattle.program_meaning.specs.declared.axis.Axis.{Axis}
+use Rattle.program_meaning.specs.Counts.{count_of}
+use Rattle.program_meaning.specs.GridPoints.{lowest_of, over, span_of, scale_of, multiple_with, multiple_of, common}
 use Rattle.point_grid.specs.Steps.{IsRising}
 use Rattle.point_grid.specs.Laws.{HasValues, fraction_over}
 use Rattle.point_grid.proofs.Multiples.{steps, with_grows, of_grows}

@@ -1,10 +1,10 @@
 -- The points of a frame.
 use Rattle.std.specs.Prelude.{◌≡◌, ℕ, ◌≤◌, ℤ, pos, ◌<ℤ◌}
 use Rattle.std.specs.List.{AllByRecursion}
-use Rattle.formula_meaning.specs.Point.{Point}
-use Rattle.point_grid.specs.Scales.{choice, size}
+use Rattle.logic_meaning.specs.Point.{Point}
+use Rattle.program_meaning.specs.Scales.{choice, size}
 use Rattle.point_grid.specs.ScaleWithin.{IsWithin}
-use Rattle.point_grid.specs.Frames.{Frame, point_over, most_points}
+use Rattle.program_meaning.specs.Frames.{Frame, point_over, most_points}
 
 -- the point with this index
 abbrev pub point_at : Frame → ℕ → Point ℕ

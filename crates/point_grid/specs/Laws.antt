@@ -2,9 +2,9 @@
 use Rattle.std.specs.Prelude.{◌≡◌, ◌↔◌, ℕ, ◌<◌, ℤ, pos, ◌+ℤ◌, ◌*ℤ◌, ◌≤ℤ◌}
 use Rattle.exact_numbers.specs.Frac.{Frac, SameValue}
 use Rattle.exact_numbers.specs.Fraction.{frac_of}
-use Rattle.point_grid.specs.declared.axis.Axis.{Axis}
-use Rattle.point_grid.specs.Scales.{number_of}
-use Rattle.point_grid.specs.Grids.{over, scale_of}
+use Rattle.program_meaning.specs.declared.axis.Axis.{Axis}
+use Rattle.program_meaning.specs.Scales.{number_of}
+use Rattle.program_meaning.specs.GridPoints.{over, scale_of}
 
 -- a number over a denominator
 abbrev pub fraction_over : ℤ → ℤ → Frac

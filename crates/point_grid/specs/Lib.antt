@@ -1,10 +1,5 @@
-pub mod Counts
-pub mod Scales
 pub mod ScaleWithin
-pub mod Frames
 pub mod FramePoints
-pub mod Grids
 pub mod Steps
 pub mod Truths
-pub mod PointPasses
 pub mod Laws

@@ -1,8 +1,8 @@
 -- A scale whose numbers are within the limit.
 use Rattle.std.specs.Prelude.{ℕ, ◌*◌, ◌<◌, ◌^◌}
 use Rattle.exact_numbers.specs.Limit.{InLimit}
-use Rattle.point_grid.specs.declared.scale.Scale.{Scale}
-use Rattle.point_grid.specs.Scales.{number_of}
+use Rattle.program_meaning.specs.declared.scale.Scale.{Scale}
+use Rattle.program_meaning.specs.Scales.{number_of}
 
 -- each number of the scale is within the limit, as it is above the first one
 pub record IsWithin (s : Scale) : Type 0 where

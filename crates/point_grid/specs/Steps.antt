@@ -1,8 +1,8 @@
 -- Axes that rise, and their steps.
 use Rattle.std.specs.Prelude.{ℕ, ℤ, pos, ◌<ℤ◌}
 use Rattle.exact_numbers.specs.Divides.{Divides}
-use Rattle.point_grid.specs.declared.axis.Axis.{Axis}
-use Rattle.point_grid.specs.Grids.{lowest_of}
+use Rattle.program_meaning.specs.declared.axis.Axis.{Axis}
+use Rattle.program_meaning.specs.GridPoints.{lowest_of}
 
 -- the step is positive
 abbrev pub IsRising : Axis → Type 0

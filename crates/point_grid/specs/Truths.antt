@@ -1,15 +1,15 @@
 -- The truths of a formula at the points of a grid.
 use Rattle.std.specs.Prelude.{◌≡◌, ℕ, ◌+◌, ◌*◌, min, Bool, List, Some, length, slice_get}
-use Rattle.formula_meaning.specs.Point.{Point}
-use Rattle.formula_meaning.specs.Shape.{IsQuantifierFree}
-use Rattle.formula_meaning.specs.Tree.{Tree}
-use Rattle.formula_store.specs.FromFormulaTree.{Shape}
+use Rattle.logic_meaning.specs.Point.{Point}
+use Rattle.logic_meaning.specs.Shape.{IsQuantifierFree}
+use Rattle.logic_meaning.specs.Tree.{Tree}
+use Rattle.formula_tree.specs.declared.shape.Shape.{Shape}
 use Rattle.formula_store.specs.declared.id.FormulaId.{FormulaId}
 use Rattle.formula_store.specs.Nodes.{tree, IsId}
 use Rattle.formula_store.specs.Truths.{Tells, IsWholeWhereAsked}
 use Rattle.qe_parallel.specs.Fanned.{AnswerAll}
-use Rattle.point_grid.specs.Scales.{size}
-use Rattle.point_grid.specs.Frames.{Frame}
+use Rattle.program_meaning.specs.Scales.{size}
+use Rattle.program_meaning.specs.Frames.{Frame}
 use Rattle.point_grid.specs.FramePoints.{point_at}
 
 -- a truth for each point, in their order

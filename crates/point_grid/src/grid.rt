@@ -2,14 +2,13 @@
 ghost use Rattle.std.specs.Prelude.{◌≡◌, ◌≤◌, ◌<◌, pos, ◌<ℤ◌, map, nat_eq, IfOk, OnOk, IsErrOf, IsTrue, ◌↔◌};
 ghost use Rattle.std.specs.List.{AllByRecursion, IsDistinct};
 ghost use Rattle.linear_forms.specs.Values.{number_at};
-ghost use Rattle.point_grid.specs.Scales.{size, choice};
+ghost use Rattle.program_meaning.specs.Scales.{size, choice};
 
-use crate::axis::Axis;
 use crate::error::GridError;
 use crate::parts::{common_denominator, product_of_counts, scales_over};
 use crate::points::put_numbers;
-use crate::scale::Scale;
 use linear_forms::Values;
+use program_meaning::{Axis, Scale};
 use std::alloc::{AllocError, Global};
 use std::marker::Model;
 
@@ -25,7 +24,7 @@ pub struct Grid {
 }
 
 impl Model for Grid {
-    ghost use Rattle.point_grid.specs.Frames.{Frame};
+    ghost use Rattle.program_meaning.specs.Frames.{Frame};
     ghost use Rattle.point_grid.specs.FramePoints.{IsFrame};
 
     ghost Value = { Frame };
@@ -36,8 +35,8 @@ impl Model for Grid {
 }
 
 impl Grid {
-    ghost use Rattle.point_grid.specs.Frames.{most_points};
-    ghost use Rattle.point_grid.specs.Grids.{grid_of, GridPasses, GridFits, HasTooMany};
+    ghost use Rattle.program_meaning.specs.Frames.{most_points};
+    ghost use Rattle.program_meaning.specs.GridPoints.{grid_of, GridPasses, GridFits, HasTooMany};
     ghost use Rattle.point_grid.specs.Steps.{name_of, IsRising};
 
     /// The grid of the axes, over the least common multiple of all denominators in lowest terms. `Overflow` comes exactly where

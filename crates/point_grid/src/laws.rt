@@ -2,13 +2,13 @@
 
 ghost use Rattle.std.specs.Prelude.{◌≡◌, ℕ, ◌<◌, List, Bool, Some, length, slice_get};
 ghost use Rattle.std.specs.List.{AllByRecursion};
-ghost use Rattle.formula_meaning.specs.Point.{Point};
-ghost use Rattle.formula_meaning.specs.Tree.{Tree};
-ghost use Rattle.point_grid.specs.declared.axis.Axis.{Axis};
-ghost use Rattle.point_grid.specs.Scales.{size};
-ghost use Rattle.point_grid.specs.Frames.{Frame, points_of};
+ghost use Rattle.logic_meaning.specs.Point.{Point};
+ghost use Rattle.logic_meaning.specs.Tree.{Tree};
+ghost use Rattle.program_meaning.specs.declared.axis.Axis.{Axis};
+ghost use Rattle.program_meaning.specs.Scales.{size};
+ghost use Rattle.program_meaning.specs.Frames.{Frame, points_of};
 ghost use Rattle.point_grid.specs.FramePoints.{point_at};
-ghost use Rattle.point_grid.specs.Grids.{common, GridFits, GridPasses};
+ghost use Rattle.program_meaning.specs.GridPoints.{common, GridFits, GridPasses};
 ghost use Rattle.point_grid.specs.Steps.{IsRising};
 ghost use Rattle.point_grid.specs.Truths.{IsTruthList};
 ghost use Rattle.point_grid.specs.Laws.{HasValues};

@@ -10,7 +10,6 @@ mod points;
 mod scale;
 mod truths;
 
-pub use axis::Axis;
 pub use error::GridError;
 pub use grid::Grid;
 pub use laws::{

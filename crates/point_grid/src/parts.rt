@@ -2,15 +2,15 @@
 ghost use Rattle.std.specs.Prelude.{◌≡◌, ◌-◌, ◌^◌, pos, ◌<ℤ◌, map, min, IfOk, IsErrOf};
 ghost use Rattle.std.specs.List.{AllByRecursion};
 ghost use Rattle.exact_numbers.specs.Limit.{checked};
-ghost use Rattle.formula_meaning.specs.Some.{SomeOf};
-ghost use Rattle.point_grid.specs.Scales.{size};
+ghost use Rattle.logic_meaning.specs.Some.{SomeOf};
+ghost use Rattle.program_meaning.specs.Scales.{size};
 ghost use Rattle.point_grid.specs.ScaleWithin.{IsWithin};
-ghost use Rattle.point_grid.specs.Grids.{common, scale_of, AxisPasses, AxisFits};
+ghost use Rattle.program_meaning.specs.GridPoints.{common, scale_of, AxisPasses, AxisFits};
 ghost use Rattle.point_grid.specs.Steps.{HasSteps};
 
-use crate::axis::Axis;
+use crate::axis::{multiple_with, scale_over};
 use crate::error::GridError;
-use crate::scale::Scale;
+use program_meaning::{Axis, Scale};
 use std::alloc::Global;
 
 // The least common multiple of all denominators in lowest terms, or `None` exactly where it passes 2^127 - 1.
@@ -19,7 +19,7 @@ pub(crate) fn common_denominator(axes: &[Axis]) -> Option<i128>
 {
     let mut multiple = 1;
     for axis in axes {
-        multiple = axis.multiple_with(multiple)?;
+        multiple = multiple_with(axis, multiple)?;
     }
     Some(multiple)
 }
@@ -41,7 +41,7 @@ pub(crate) fn scales_over(
 {
     let mut scales = Vec::new(alloc);
     for axis in axes {
-        let Some(scale) = axis.scale(denominator) else {
+        let Some(scale) = scale_over(axis, denominator) else {
             return Err(GridError::Overflow);
         };
         if let Err(_failed) = scales.push(scale) {

@@ -2,11 +2,12 @@
 ghost use Rattle.std.specs.Prelude.{◌≡◌, ◌<◌, OnOk};
 ghost use Rattle.std.specs.List.{AllByRecursion};
 ghost use Rattle.linear_forms.specs.Values.{number_at};
-ghost use Rattle.point_grid.specs.Scales.{choice, size};
+ghost use Rattle.program_meaning.specs.Scales.{choice, size};
 ghost use Rattle.point_grid.specs.ScaleWithin.{IsWithin};
 
-use crate::scale::Scale;
+use crate::scale::number_in;
 use linear_forms::Values;
+use program_meaning::Scale;
 use std::alloc::AllocError;
 
 // Gives the names of the scales their numbers at the choice with this index, of so many. Its only error is want of memory.
@@ -26,7 +27,7 @@ pub(crate) fn put_numbers(
     let mut left = index as u128;
     for scale in scales {
         stride /= scale.count;
-        if let Err(_failed) = values.put(scale.name, scale.number(left / stride)) {
+        if let Err(_failed) = values.put(scale.name, number_in(scale, left / stride)) {
             return Err(AllocError);
         }
         left %= stride;

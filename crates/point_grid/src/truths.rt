@@ -1,14 +1,14 @@
 //! The truth of a formula without quantifiers at each point of a grid, shared out to threads.
 
 ghost use Rattle.std.specs.Prelude.{◌≡◌, ◌≤◌, flat_map, IfOk, IsErrOf};
-ghost use Rattle.formula_meaning.specs.Shape.{IsQuantifierFree};
+ghost use Rattle.logic_meaning.specs.Shape.{IsQuantifierFree};
 ghost use Rattle.formula_store.specs.Nodes.{tree, IsId};
 ghost use Rattle.formula_store.specs.Truths.{IsWholeWhereAsked};
 ghost use Rattle.qe_parallel.specs.Fanned.{AnswerAll};
-ghost use Rattle.point_grid.specs.Scales.{size};
-ghost use Rattle.point_grid.specs.Frames.{points_of};
+ghost use Rattle.program_meaning.specs.Scales.{size};
+ghost use Rattle.program_meaning.specs.Frames.{points_of};
 ghost use Rattle.point_grid.specs.Truths.{IsTruthAt, IsTruthList};
-ghost use Rattle.point_grid.specs.PointPasses.{SomePointPasses};
+ghost use Rattle.program_meaning.specs.PointPasses.{SomePointPasses};
 
 use crate::error::GridError;
 use crate::grid::Grid;
@@ -44,9 +44,9 @@ impl<'a> Model for Points<'a> {
 impl Worker for Points<'_> {
     ghost use Rattle.std.specs.Prelude.{◌≡◌};
     ghost use Rattle.formula_store.specs.Nodes.{tree};
-    ghost use Rattle.point_grid.specs.Scales.{size};
+    ghost use Rattle.program_meaning.specs.Scales.{size};
     ghost use Rattle.point_grid.specs.Truths.{run_length, AreRun};
-    ghost use Rattle.point_grid.specs.PointPasses.{SomePointPasses};
+    ghost use Rattle.program_meaning.specs.PointPasses.{SomePointPasses};
     ghost use Rattle.std.specs.Int.{div_ceil};
     ghost use Rattle.formula_store.specs.declared.error.EvalStop.TheVariants.{Overflow};
 

@@ -2,36 +2,37 @@
 use Rattle.std.proofs.Common.{◌≡◌, inl, inr, ⊎_elim, ℕ, ◌≤◌, length, List, [], ◌∷◌, Bool, true, false, IsTrue, ◌↔◌, MatchOption, Option, Some, None, sym, ap, ◌∙◌, subst, refl, rules}
 use Rattle.std.proofs.lemmas.Bool.{false≢true}
 use Rattle.std.specs.Prelude.{option_map, is_some}
-use Rattle.formula_meaning.specs.Formula.{none, also}
-use Rattle.formula_meaning.specs.Some.{SomeOf, EachOf}
-use Rattle.formula_meaning.specs.Tree.{Tree}
-use Rattle.qe_syntax.specs.declared.entries.PointEntry.{PointEntry}
-use Rattle.qe_syntax.specs.Point.{PassesLimit}
-use Rattle.statement_syntax.specs.Statements.{CommandTree, Holds, Sample}
-use Rattle.qe_syntax.specs.Trees.{FormulaTree}
-use Rattle.formula_tree.specs.Bindings.{bound_to}
-use Rattle.resolved_formulas.specs.Causes.{IsBound, OverflowsInReading}
-use Rattle.formula_tree.specs.Names.{place}
-use Rattle.formula_resolving.specs.declared.error.StaticError.{StaticError}
-use Rattle.formula_resolving.specs.declared.error.StaticError.TheVariants as static
-use Rattle.formula_resolving.specs.Refusals as reading
+use Rattle.logic_meaning.specs.Formula.{none, also}
+use Rattle.logic_meaning.specs.Some.{SomeOf, EachOf}
+use Rattle.logic_meaning.specs.Tree.{Tree}
+use Rattle.language_meaning.specs.declared.entries.PointEntry.{PointEntry}
+use Rattle.language_meaning.specs.Point.{PassesLimit}
+use Rattle.language_meaning.specs.Statements.{CommandTree, Holds, Sample}
+use Rattle.language_meaning.specs.Trees.{FormulaTree}
+use Rattle.logic_meaning.specs.Bindings.{bound_to}
+use Rattle.language_meaning.specs.Causes.{IsBound, OverflowsInReading}
+use Rattle.logic_meaning.specs.Names.{place}
+use Rattle.language_meaning.specs.declared.static_error.StaticError.{StaticError}
+use Rattle.language_meaning.specs.declared.static_error.StaticError.TheVariants as static
+use Rattle.language_meaning.specs.Refusals as reading
 use Rattle.formula_resolving.specs.FirstCause.{IsFirstCause}
 use Rattle.formula_resolving.specs.BoundIds.{trees_bound}
 use Rattle.formula_resolving.proofs.Answered.{beside}
-use Rattle.resolved_formulas.specs.Answers.{with_inner}
-use Rattle.session_meaning.specs.declared.line.StatementError.{StatementError}
-use Rattle.session_meaning.specs.declared.line.StatementError.TheVariants as error
-use Rattle.session_meaning.specs.State.{State, known}
-use Rattle.session_meaning.specs.Points.{MeanNoPoint}
-use Rattle.problem_reading.specs.FromCommandTools.{use_of, Refuses, static_refusal}
-use Rattle.problem_reading.specs.Reading.{HasNumbers, IsUnread, IsReadable, AreNumbered, AppliesAmong, IsBefore, HasNoEarlier, IsFirstAmong}
+use Rattle.language_meaning.specs.Answers.{with_inner}
+use Rattle.program_meaning.specs.declared.line.StatementError.{StatementError}
+use Rattle.program_meaning.specs.declared.line.StatementError.TheVariants as error
+use Rattle.program_meaning.specs.State.{State, known}
+use Rattle.program_meaning.specs.Points.{MeanNoPoint}
+use Rattle.form_commands.specs.Replies.{use_of, Refuses}
+use Rattle.form_commands.specs.Refusals.{static_refusal}
+use Rattle.form_commands.specs.Reading.{HasNumbers, IsUnread, IsReadable, AreNumbered, AppliesAmong, IsBefore, HasNoEarlier, IsFirstAmong}
 use Rattle.point_queries.specs.Asked.{Asks, RefusesAsking, RefusesBoth, AcceptsBoth, entry_names, stop_of, IsClear, PointStop, IsValued, ValuedStop}
-use Rattle.session_meaning.specs.Meaning.{meaning, Meaning}
-use Rattle.session_meaning.specs.Uses.{Use}
-use Rattle.session_meaning.specs.Causes.{IsCause, HasNone, IsFirst}
-use Rattle.session_meaning.specs.Words.{before, order}
-use Rattle.formula_resolving.proofs.Order.{each_before}
-use Rattle.problem_reading.proofs.CauseLemmas.{then_clear, overflow_here, to_point, first_in_reading, bound_first, readable_none}
+use Rattle.program_meaning.specs.Meaning.{meaning, Meaning}
+use Rattle.program_meaning.specs.Uses.{Use}
+use Rattle.program_meaning.specs.Causes.{IsCause, HasNone, IsFirst}
+use Rattle.program_meaning.specs.Words.{before, order}
+use Rattle.formula_resolving.proofs.OrderFacts.{each_before}
+use Rattle.form_commands.proofs.CauseLemmas.{then_clear, overflow_here, to_point, first_in_reading, bound_first, readable_none}
 
 -- ---- names that are bound
 

@@ -3,41 +3,47 @@ use Rattle.std.proofs.Common.{◌≡◌, inl, inr, ℕ, List, [], ◌∷◌, ◌
 use Rattle.std.specs.Prelude.{Result, OnOk}
 use Rattle.std.proofs.lemmas.List.{append-nil}
 use Rattle.std.specs.List.{IsDistinct, AllByRecursion, fold}
-use Rattle.formula_meaning.specs.Every.{Every}
-use Rattle.formula_meaning.specs.Point.{Of}
-use Rattle.formula_meaning.specs.Some.{SomeOf}
-use Rattle.formula_meaning.specs.Tree.{Tree}
-use Rattle.atom_normal.specs.Atoms.{context_of}
-use Rattle.atom_normal.specs.NormalForm.{IsNormal}
-use Rattle.qe_syntax.specs.declared.entries.PointEntry.{PointEntry}
-use Rattle.qe_syntax.specs.Point.{PassesLimit, IsPointOf}
-use Rattle.qe_syntax.specs.PointNumbers.{Numbers, point_of}
-use Rattle.qe_syntax.specs.Writable.{AreWritableEntries}
-use Rattle.statement_syntax.specs.Statements.{Holds}
-use Rattle.qe_syntax.specs.Trees.{FormulaTree}
-use Rattle.qe_syntax.specs.Value.{same_name}
-use Rattle.qe_syntax.specs.Valued.{IsIn}
-use Rattle.formula_tree.specs.Names.{with_name, place}
-use Rattle.resolved_formulas.specs.Causes.{OverflowsInReading}
+use Rattle.logic_meaning.specs.Every.{Every}
+use Rattle.logic_meaning.specs.Point.{Of}
+use Rattle.logic_meaning.specs.Some.{SomeOf}
+use Rattle.logic_meaning.specs.Tree.{Tree}
+use Rattle.normal_atoms.specs.Atoms.{context_of}
+use Rattle.logic_meaning.specs.NormalForm.{IsNormal}
+use Rattle.language_meaning.specs.declared.entries.PointEntry.{PointEntry}
+use Rattle.language_meaning.specs.Point.{PassesLimit, IsPointOf}
+use Rattle.written_syntax.specs.PointNumbers.{Numbers, point_of}
+use Rattle.written_syntax.specs.Writable.{AreWritableEntries}
+use Rattle.language_meaning.specs.Statements.{Holds}
+use Rattle.language_meaning.specs.Trees.{FormulaTree}
+use Rattle.language_meaning.specs.Value.{same_name}
+use Rattle.written_syntax.specs.Valued.{IsIn}
+use Rattle.logic_meaning.specs.Names.{with_name, place}
+use Rattle.language_meaning.specs.Causes.{OverflowsInReading}
 use Rattle.formula_tree.specs.Makers.{IsMade}
-use Rattle.resolved_formulas.specs.Resolving.{formula_variables, resolve}
+use Rattle.language_meaning.specs.Resolving.{formula_variables, resolve}
 use Rattle.resolved_formulas.proofs.PlaceLaws.{after_has, after_distinct, in_either}
 use Rattle.resolved_formulas.proofs.ResolvedTruth.{resolving_is_normal}
 use Rattle.formula_resolving.specs.Numbering.{Grows}
 use Rattle.formula_store.specs.declared.id.FormulaId.{FormulaId}
 use Rattle.formula_store.specs.Nodes.{tree, IsId}
-use Rattle.session_meaning.specs.declared.line.StatementError.{StatementError}
-use Rattle.session_meaning.specs.declared.line.StatementError.TheVariants as error
-use Rattle.problem_reading.specs.FromSessionState.{SessionState, state_of, IsSessionState, KeepsState, IsScripted, HasIds}
-use Rattle.session_meaning.specs.State.{State, known}
-use Rattle.problem_reading.specs.Reading.{HasNumbers, IsReadable}
+use Rattle.program_meaning.specs.declared.line.StatementError.{StatementError}
+use Rattle.program_meaning.specs.declared.line.StatementError.TheVariants as error
+use Rattle.session_state.specs.declared.state.SessionState.{SessionState}
+use Rattle.session_state.specs.Keeping.{state_of, IsSessionState, HasIds}
+use Rattle.session_state.specs.Growth.{KeepsState}
+use Rattle.session_state.specs.Scripted.{IsScripted}
+use Rattle.program_meaning.specs.State.{State, known}
+use Rattle.form_commands.specs.Reading.{HasNumbers, IsReadable}
 use Rattle.point_queries.specs.Asked.{HaveNumbers, RefusesBoth, entry_names, IsReadAs, IsMeantPoint, PointStop, IsValued, ValuedStop, IsAsked}
-use Rattle.session_meaning.specs.Meaning.{meaning}
-use Rattle.session_meaning.specs.Numbered.{numbered}
-use Rattle.session_meaning.specs.Points.{MeanNoPoint}
+use Rattle.program_meaning.specs.Meaning.{meaning}
+use Rattle.session_state.specs.Numbered.{numbered}
+use Rattle.program_meaning.specs.Points.{MeanNoPoint}
 use Rattle.point_queries.proofs.AskedLemmas.{no_point, not_valued, reading_passes, point_passes, all_clear}
 use Rattle.point_queries.proofs.CaseSteps.{on_ok}
-use Rattle.problem_reading.proofs.FromSessionState.{state_parts, same_state, same_session, length_grows, sound_with, numbers_stay, AllVariables, both, known_formulas, all_put_in}
+use Rattle.session_state.proofs.StateLemmas.{state_parts, same_state, same_session, length_grows, sound_with}
+use Rattle.session_state.proofs.NameLemmas.{numbers_stay}
+use Rattle.session_state.proofs.VariableLemmas.{AllVariables, both, all_put_in}
+use Rattle.session_state.proofs.KnownLemmas.{known_formulas}
 use Rattle.point_queries.proofs.PointLemmas.{of_theory}
 use Rattle.point_queries.proofs.EntryLemmas.{names_of_entries}
 

@@ -13,25 +13,25 @@ use Rattle.exact_numbers.specs.Divides.{Divides}
 use Rattle.exact_numbers.proofs.Divisibility.{divides_same, divisor_at_most}
 use Rattle.exact_numbers.proofs.FractionRule.{lowest_proper}
 use Rattle.exact_numbers.proofs.LeastMultiple.{lcm_is}
-use Rattle.formula_meaning.specs.Context.{Context, Fields, Integers, IsDenominator}
-use Rattle.formula_meaning.specs.Some.{SomeOf}
-use Rattle.qe_syntax.specs.declared.tree.Literal.{Literal}
-use Rattle.qe_syntax.specs.declared.tree.Literal.TheVariants.{Fits}
-use Rattle.qe_syntax.specs.declared.entries.PointEntry.{PointEntry}
-use Rattle.qe_syntax.specs.Point.{HasEntry, NamesTwice, IsZeroBelow, IsCommonMultiple, lowest_terms}
-use Rattle.qe_syntax.specs.Valued.{IsIn}
-use Rattle.qe_syntax.specs.Writable.{AreWritableEntries}
-use Rattle.formula_tree.specs.Names.{place, with_name}
+use Rattle.logic_meaning.specs.Context.{Context, Fields, Integers, IsDenominator}
+use Rattle.logic_meaning.specs.Some.{SomeOf}
+use Rattle.language_meaning.specs.declared.tree.Literal.{Literal}
+use Rattle.language_meaning.specs.declared.tree.Literal.TheVariants.{Fits}
+use Rattle.language_meaning.specs.declared.entries.PointEntry.{PointEntry}
+use Rattle.language_meaning.specs.Point.{HasEntry, NamesTwice, IsZeroBelow, IsCommonMultiple, lowest_terms}
+use Rattle.written_syntax.specs.Valued.{IsIn}
+use Rattle.written_syntax.specs.Writable.{AreWritableEntries}
+use Rattle.logic_meaning.specs.Names.{place, with_name}
 use Rattle.resolved_formulas.proofs.PlaceLaws.{slice_place}
-use Rattle.statement_syntax.specs.declared.grid.Ratio.{Ratio}
-use Rattle.statement_syntax.specs.declared.grid.GridAxis.{GridAxis}
-use Rattle.statement_syntax.specs.Writable.{AreWritableAxes}
-use Rattle.point_grid.specs.declared.axis.Axis.{Axis}
-use Rattle.point_grid.specs.Grids.{lowest_of, multiple_with, multiple_of, common}
+use Rattle.language_meaning.specs.declared.grid.Ratio.{Ratio}
+use Rattle.language_meaning.specs.declared.grid.GridAxis.{GridAxis}
+use Rattle.written_syntax.specs.StatementSyntaxWritable.{AreWritableAxes}
+use Rattle.program_meaning.specs.declared.axis.Axis.{Axis}
+use Rattle.program_meaning.specs.GridPoints.{lowest_of, multiple_with, multiple_of, common}
 use Rattle.point_grid.specs.Steps.{name_of, IsRising}
 use Rattle.point_grid.proofs.Multiples.{with_grows, common_positive}
-use Rattle.session_meaning.specs.Points.{MeanNoPoint}
-use Rattle.session_meaning.specs.Grids.{lows, highs, steps, IsFlat, MeanNoGrid, IsFraction, IsAxis, AreAxes, ArePast}
+use Rattle.program_meaning.specs.Points.{MeanNoPoint}
+use Rattle.program_meaning.specs.Grids.{lows, highs, steps, IsFlat, MeanNoGrid, IsFraction, IsAxis, AreAxes, ArePast}
 use Rattle.point_queries.specs.Asked.{HaveNumbers, entry_names}
 use Rattle.point_queries.specs.GridSteps.{IsDivided, IsPastRatio, IsPastAxis}
 use Rattle.point_queries.proofs.PointLemmas.{whole_entries}

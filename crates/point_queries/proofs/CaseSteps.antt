@@ -3,55 +3,67 @@ use Rattle.std.proofs.Common.{◌≡◌, ◌↔◌, inl, inr, ℕ, List, [], ◌
 use Rattle.std.proofs.lemmas.List.{append-nil}
 use Rattle.std.specs.Prelude.{Result, Ok, Err, IfOk, IfErr, OnOk}
 use Rattle.std.specs.List.{IsDistinct, fold}
-use Rattle.formula_meaning.specs.Atom.{Atom, Says}
-use Rattle.formula_meaning.specs.Context.{Context}
-use Rattle.formula_meaning.specs.Every.{Every}
-use Rattle.formula_meaning.specs.Formula.{Or, also}
-use Rattle.formula_meaning.specs.Point.{Of}
-use Rattle.formula_meaning.specs.Some.{EachOf}
-use Rattle.formula_meaning.specs.Tree.{Tree, TrueAt}
-use Rattle.atom_normal.specs.NormalForm.{IsNormal}
-use Rattle.atom_normal.proofs.Stepped.{ok_map}
-use Rattle.elimination_reference.specs.Cases.{Case, case_sign}
-use Rattle.elimination_reference.specs.AnswerParts.{guards_of}
-use Rattle.session_meaning.specs.FromPlainCases.{PrintedCase, case_seen}
-use Rattle.qe_syntax.specs.Writable.{AreWritableFormulas}
-use Rattle.statement_syntax.specs.Statements.{Qea}
-use Rattle.qe_syntax.specs.Trees.{FormulaTree, FormulaTrees}
-use Rattle.qe_syntax.specs.Value.{NamedPoint, same_name}
-use Rattle.qe_syntax.specs.Value as written
-use Rattle.formula_tree.specs.Names.{with_name}
-use Rattle.resolved_formulas.specs.Resolving.{formula_variables, all_variables, resolve, at_names, bound_truth}
+use Rattle.logic_meaning.specs.Atom.{Atom, Says}
+use Rattle.logic_meaning.specs.Context.{Context}
+use Rattle.logic_meaning.specs.Every.{Every}
+use Rattle.logic_meaning.specs.Formula.{Or, also}
+use Rattle.logic_meaning.specs.Point.{Of}
+use Rattle.logic_meaning.specs.Some.{EachOf}
+use Rattle.logic_meaning.specs.Tree.{Tree, TrueAt}
+use Rattle.logic_meaning.specs.NormalForm.{IsNormal}
+use Rattle.normal_atoms.proofs.Stepped.{ok_map}
+use Rattle.logic_meaning.specs.Cases.{Case, case_sign}
+use Rattle.logic_meaning.specs.AnswerParts.{guards_of}
+use Rattle.reference_engine.specs.declared.cases.PrintedCase.{PrintedCase}
+use Rattle.reference_engine.specs.Case.{case_seen}
+use Rattle.written_syntax.specs.Writable.{AreWritableFormulas}
+use Rattle.language_meaning.specs.Statements.{Qea}
+use Rattle.language_meaning.specs.Trees.{FormulaTree, FormulaTrees}
+use Rattle.language_meaning.specs.Value.{NamedPoint, same_name}
+use Rattle.language_meaning.specs.Value as written
+use Rattle.logic_meaning.specs.Names.{with_name}
+use Rattle.language_meaning.specs.Resolving.{formula_variables, all_variables, resolve, at_names, bound_truth}
 use Rattle.resolved_formulas.proofs.PlaceLaws.{after_distinct}
 use Rattle.formula_resolving.specs.Numbering.{Grows}
-use Rattle.formula_meaning.specs.Within.{IsAtomWithin}
-use Rattle.session_meaning.specs.FromAnswerTexts.{cases_text, AreCasesWithin}
-use Rattle.session_meaning.specs.declared.line.Line.{Line}
-use Rattle.session_meaning.specs.declared.line.StatementError.{StatementError}
-use Rattle.session_meaning.specs.declared.line.StatementError.TheVariants as error
-use Rattle.problem_reading.specs.FromSessionState.{SessionState, state_of, IsSessionFormula, IsSound, IsSessionState, KeepsState, IsScripted}
-use Rattle.session_meaning.specs.State.{State, known}
-use Rattle.session_meaning.specs.Assumptions.{Hold, assumed}
-use Rattle.session_meaning.specs.Cases.{IsCaseOf, IsCaseAnswer}
-use Rattle.problem_reading.specs.FromSharedForms.{FormsError, CasesFault, Way, IsCaseFor, AreCasesFor, AreWantedCases, AreCasesBy}
-use Rattle.problem_reading.specs.FromSharedForms.forms_error_variants as forms
-use Rattle.problem_reading.specs.FromSharedForms.way_variants as way
-use Rattle.problem_reading.specs.FromCommandTools.{use_of, Refuses, IsQueryAnswer, forms_refusal, LineFault}
+use Rattle.formula_laws.specs.Within.{IsAtomWithin}
+use Rattle.redlog_printer.specs.Within.{AreCasesWithin}
+use Rattle.logic_meaning.specs.AnswerTexts.{cases_text}
+use Rattle.program_meaning.specs.declared.line.Line.{Line}
+use Rattle.program_meaning.specs.declared.line.StatementError.{StatementError}
+use Rattle.program_meaning.specs.declared.line.StatementError.TheVariants as error
+use Rattle.session_state.specs.declared.state.SessionState.{SessionState}
+use Rattle.session_state.specs.Keeping.{state_of, IsSessionFormula, IsSound, IsSessionState}
+use Rattle.session_state.specs.Growth.{KeepsState}
+use Rattle.session_state.specs.Scripted.{IsScripted}
+use Rattle.program_meaning.specs.State.{State, known}
+use Rattle.program_meaning.specs.Assumptions.{Hold, assumed}
+use Rattle.program_meaning.specs.Cases.{IsCaseOf, IsCaseAnswer}
+use Rattle.form_commands.specs.declared.error.FormsError.{FormsError}
+use Rattle.form_commands.specs.Faults.{CasesFault}
+use Rattle.form_commands.specs.declared.way.Way.{Way}
+use Rattle.form_commands.specs.Cases.{IsCaseFor, AreCasesFor, AreWantedCases, AreCasesBy}
+use Rattle.form_commands.specs.declared.error.FormsError.TheVariants as forms
+use Rattle.form_commands.specs.declared.way.Way.TheVariants as way
+use Rattle.form_commands.specs.Replies.{use_of, Refuses, IsQueryAnswer}
+use Rattle.form_commands.specs.Refusals.{forms_refusal, LineFault}
 use Rattle.point_queries.specs.CaseLists.{CasesRefuse}
-use Rattle.problem_reading.specs.Reading.{AreNumbered, AreReadable, AreUnread}
-use Rattle.session_meaning.specs.Meaning.{meaning, Meaning}
-use Rattle.session_meaning.specs.Numbered.{numbered}
-use Rattle.session_meaning.specs.Uses.{Use}
-use Rattle.session_meaning.specs.Causes.{HasNone, IsAccepted}
-use Rattle.session_meaning.specs.Reply.{IsLine}
-use Rattle.session_meaning.specs.Words.{before}
-use Rattle.session_meaning.specs.FormulaAnswers.{negation_normal_of}
-use Rattle.problem_reading.proofs.AssumptionLemmas.{assumed_hold}
-use Rattle.problem_reading.proofs.CauseLemmas.{HasNoPoint, then_clear, unread_refuses, ready_below, readable_below, below_bindings}
-use Rattle.problem_reading.proofs.FromSharedForms.{err_map, IsReferenceCase, reference_known, left_no_longer, turned_under, turned_along, cases_for, cases_within, orderly_members}
-use Rattle.problem_reading.proofs.FromSessionState.{state_parts, same_state, same_session, length_grows, sound_with, AllVariables, both, not_empty, variables_of_all, all_put_in}
-use Rattle.problem_reading.proofs.ReadLemmas.{numbers_of, readable_formula, assumed_normal}
-use Rattle.problem_reading.proofs.ReadTruth.{truth_as_written}
+use Rattle.form_commands.specs.Reading.{AreNumbered, AreReadable, AreUnread}
+use Rattle.program_meaning.specs.Meaning.{meaning, Meaning}
+use Rattle.session_state.specs.Numbered.{numbered}
+use Rattle.program_meaning.specs.Uses.{Use}
+use Rattle.program_meaning.specs.Causes.{HasNone, IsAccepted}
+use Rattle.program_meaning.specs.Reply.{IsLine}
+use Rattle.program_meaning.specs.Words.{before}
+use Rattle.program_meaning.specs.FormulaAnswers.{negation_normal_of}
+use Rattle.form_commands.proofs.AssumptionLemmas.{assumed_hold}
+use Rattle.form_commands.proofs.CauseLemmas.{HasNoPoint, then_clear, unread_refuses, ready_below, readable_below, below_bindings}
+use Rattle.form_commands.proofs.CaseLemmas.{err_map, IsReferenceCase, reference_known, left_no_longer, turned_under, turned_along}
+use Rattle.form_commands.proofs.CasesFor.{cases_for, cases_within}
+use Rattle.form_commands.proofs.EliminatedLemmas.{orderly_members}
+use Rattle.session_state.proofs.StateLemmas.{state_parts, same_state, same_session, length_grows, sound_with}
+use Rattle.session_state.proofs.VariableLemmas.{AllVariables, both, not_empty, variables_of_all, all_put_in}
+use Rattle.form_commands.proofs.ReadLemmas.{numbers_of, readable_formula, assumed_normal}
+use Rattle.form_commands.proofs.ReadTruth.{truth_as_written}
 
 -- ---- results
 

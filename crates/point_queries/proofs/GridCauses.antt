@@ -1,24 +1,24 @@
 -- Why the truths at the points of a grid are refused, and when they are not.
 use Rattle.std.proofs.Common.{inl, inr, ⊎_elim, ℕ, List, Bool, None, sym, subst, refl}
-use Rattle.statement_syntax.specs.declared.grid.GridAxis.{GridAxis}
-use Rattle.statement_syntax.specs.Statements.{Grid}
-use Rattle.qe_syntax.specs.Trees.{FormulaTree}
-use Rattle.resolved_formulas.specs.Causes.{OverflowsInReading}
-use Rattle.resolved_formulas.specs.Resolving.{resolve}
-use Rattle.formula_tree.specs.Names.{place}
-use Rattle.point_grid.specs.declared.axis.Axis.{Axis}
-use Rattle.point_grid.specs.Grids.{grid_of}
-use Rattle.session_meaning.specs.declared.line.StatementError.{StatementError}
-use Rattle.session_meaning.specs.declared.line.StatementError.TheVariants as error
-use Rattle.session_meaning.specs.State.{State, known}
-use Rattle.session_meaning.specs.Grids.{lows, AreAxes, MeanNoGrid, PassesGrid, HasTooManyPoints}
-use Rattle.session_meaning.specs.Meaning.{Meaning, meaning}
-use Rattle.session_meaning.specs.Points.{IsQuantified}
-use Rattle.session_meaning.specs.Causes.{HasNone}
-use Rattle.session_meaning.specs.Words.{before}
-use Rattle.problem_reading.specs.FromCommandTools.{use_of}
-use Rattle.problem_reading.specs.Reading.{HasNumbers, IsReadable}
-use Rattle.problem_reading.proofs.CauseLemmas.{then_clear, overflow_here}
+use Rattle.language_meaning.specs.declared.grid.GridAxis.{GridAxis}
+use Rattle.language_meaning.specs.Statements.{Grid}
+use Rattle.language_meaning.specs.Trees.{FormulaTree}
+use Rattle.language_meaning.specs.Causes.{OverflowsInReading}
+use Rattle.language_meaning.specs.Resolving.{resolve}
+use Rattle.logic_meaning.specs.Names.{place}
+use Rattle.program_meaning.specs.declared.axis.Axis.{Axis}
+use Rattle.program_meaning.specs.GridPoints.{grid_of}
+use Rattle.program_meaning.specs.declared.line.StatementError.{StatementError}
+use Rattle.program_meaning.specs.declared.line.StatementError.TheVariants as error
+use Rattle.program_meaning.specs.State.{State, known}
+use Rattle.program_meaning.specs.Grids.{lows, AreAxes, MeanNoGrid, PassesGrid, HasTooManyPoints}
+use Rattle.program_meaning.specs.Meaning.{Meaning, meaning}
+use Rattle.program_meaning.specs.Points.{IsQuantified}
+use Rattle.program_meaning.specs.Causes.{HasNone}
+use Rattle.program_meaning.specs.Words.{before}
+use Rattle.form_commands.specs.Replies.{use_of}
+use Rattle.form_commands.specs.Reading.{HasNumbers, IsReadable}
+use Rattle.form_commands.proofs.CauseLemmas.{then_clear, overflow_here}
 use Rattle.point_queries.specs.Asked.{Asks, IsClear, IsValued, ValuedStop}
 use Rattle.point_queries.specs.GridSteps.{RefusesGrid, AcceptsGrid, AxesStop, NoGrid, TruthsStop}
 use Rattle.point_queries.proofs.AskedLemmas.{asking_below_point}

@@ -1,13 +1,13 @@
 -- The grid of axes as they are written.
 use Rattle.std.proofs.Common.{◌≡◌, inl, inr, ℕ, ◌≤◌, List, subst, refl, arith}
-use Rattle.statement_syntax.specs.declared.grid.GridAxis.{GridAxis}
-use Rattle.point_grid.specs.declared.axis.Axis.{Axis}
-use Rattle.point_grid.specs.Scales.{size}
-use Rattle.point_grid.specs.Frames.{Frame, most_points}
-use Rattle.point_grid.specs.Grids.{grid_of, GridPasses, GridFits, HasTooMany}
+use Rattle.language_meaning.specs.declared.grid.GridAxis.{GridAxis}
+use Rattle.program_meaning.specs.declared.axis.Axis.{Axis}
+use Rattle.program_meaning.specs.Scales.{size}
+use Rattle.program_meaning.specs.Frames.{Frame, most_points}
+use Rattle.program_meaning.specs.GridPoints.{grid_of, GridPasses, GridFits, HasTooMany}
 use Rattle.point_grid.proofs.Fitting.{fits_or_passes}
-use Rattle.session_meaning.specs.declared.line.StatementError.TheVariants as error
-use Rattle.session_meaning.specs.Grids.{AreAxes, PassesGrid, HasTooManyPoints}
+use Rattle.program_meaning.specs.declared.line.StatementError.TheVariants as error
+use Rattle.program_meaning.specs.Grids.{AreAxes, PassesGrid, HasTooManyPoints}
 use Rattle.point_queries.specs.GridSteps.{IsMeantGrid, NoGrid}
 use Rattle.point_queries.proofs.AxisLemmas.{axes_determined, none_past}
 

@@ -5,50 +5,53 @@ use Rattle.std.specs.List.{fold}
 use Rattle.std.proofs.Math.IntN.{ℤ, pos}
 use Rattle.std.proofs.lemmas.Bool.{false≢true}
 use Rattle.std.proofs.lemmas.Option.{slice_get-map}
-use Rattle.formula_meaning.specs.Context.{IsDenominator}
-use Rattle.formula_meaning.specs.Point.{Point, Of}
-use Rattle.formula_meaning.specs.Shape.{IsQuantifierFree}
-use Rattle.formula_meaning.specs.Tree.{Tree, TrueAt}
-use Rattle.atom_normal.specs.Atoms.{context_of}
-use Rattle.atom_normal.proofs.Stepped.{ok_map}
-use Rattle.qe_syntax.specs.declared.entries.PointEntry.{PointEntry}
-use Rattle.qe_syntax.specs.Trees.{FormulaTree}
-use Rattle.qe_syntax.specs.Value as written
-use Rattle.statement_syntax.specs.declared.grid.GridAxis.{GridAxis}
-use Rattle.statement_syntax.specs.Statements.{Grid}
-use Rattle.statement_syntax.specs.Writable.{AreWritableAxes}
-use Rattle.formula_meaning.specs.Replaced.{replaced}
-use Rattle.resolved_formulas.specs.Causes.{OverflowsInReading, atom_in_place}
-use Rattle.formula_tree.specs.Quantified.{has_quantifier}
+use Rattle.logic_meaning.specs.Context.{IsDenominator}
+use Rattle.logic_meaning.specs.Point.{Point, Of}
+use Rattle.logic_meaning.specs.Shape.{IsQuantifierFree}
+use Rattle.logic_meaning.specs.Tree.{Tree, TrueAt}
+use Rattle.normal_atoms.specs.Atoms.{context_of}
+use Rattle.normal_atoms.proofs.Stepped.{ok_map}
+use Rattle.language_meaning.specs.declared.entries.PointEntry.{PointEntry}
+use Rattle.language_meaning.specs.Trees.{FormulaTree}
+use Rattle.language_meaning.specs.Value as written
+use Rattle.language_meaning.specs.declared.grid.GridAxis.{GridAxis}
+use Rattle.language_meaning.specs.Statements.{Grid}
+use Rattle.written_syntax.specs.StatementSyntaxWritable.{AreWritableAxes}
+use Rattle.logic_meaning.specs.Replaced.{replaced}
+use Rattle.language_meaning.specs.Causes.{OverflowsInReading, atom_in_place}
+use Rattle.logic_meaning.specs.Quantified.{has_quantifier}
 use Rattle.formula_tree.specs.Makers.{IsMade}
-use Rattle.formula_tree.specs.Names.{with_name, place}
-use Rattle.resolved_formulas.specs.Resolving.{formula_variables, resolve, bound_truth}
+use Rattle.logic_meaning.specs.Names.{with_name, place}
+use Rattle.language_meaning.specs.Resolving.{formula_variables, resolve, bound_truth}
 use Rattle.formula_resolving.specs.Numbering.{Grows}
 use Rattle.formula_store.specs.declared.id.FormulaId.{FormulaId}
 use Rattle.formula_store.specs.Nodes.{tree, IsId}
 use Rattle.formula_store.specs.Truths.{Tells, IsWholeWhereAsked}
-use Rattle.point_grid.specs.Frames.{Frame, most_points, points_of, point_over}
+use Rattle.program_meaning.specs.Frames.{Frame, most_points, points_of, point_over}
 use Rattle.point_grid.specs.FramePoints.{IsFrame}
-use Rattle.point_grid.specs.Scales.{choices}
-use Rattle.point_grid.specs.Grids.{grid_of}
+use Rattle.program_meaning.specs.Scales.{choices}
+use Rattle.program_meaning.specs.GridPoints.{grid_of}
 use Rattle.point_grid.specs.Truths.{IsTruthList}
 use Rattle.point_grid.proofs.Numbering.{points_are_counted}
-use Rattle.session_meaning.specs.declared.line.Line.{Line}
-use Rattle.session_meaning.specs.declared.line.StatementError.{StatementError}
-use Rattle.session_meaning.specs.declared.line.StatementError.TheVariants as error
-use Rattle.session_meaning.specs.State.{State, known}
-use Rattle.session_meaning.specs.Grids.{lows, MeanNoGrid, IsGridAnswer, grid_text}
-use Rattle.session_meaning.specs.Meaning.{meaning}
-use Rattle.session_meaning.specs.Numbered.{numbered}
-use Rattle.session_meaning.specs.Reply.{IsLine}
-use Rattle.problem_reading.specs.FromCommandTools.{use_of, Refuses, IsQueryAnswer}
-use Rattle.session_meaning.specs.Places.{by_names}
-use Rattle.session_meaning.specs.Points.{IsQuantified}
-use Rattle.problem_reading.specs.FromSessionState.{SessionState, KeepsState, state_of, IsSessionState, IsScripted}
-use Rattle.problem_reading.proofs.FromSharedForms.{err_map}
-use Rattle.problem_reading.proofs.FromEngineAnswers.{whole_where_asked}
-use Rattle.problem_reading.specs.Reading.{HasNumbers, IsReadable}
-use Rattle.problem_reading.proofs.ReadLemmas.{readable_formula}
+use Rattle.program_meaning.specs.declared.line.Line.{Line}
+use Rattle.program_meaning.specs.declared.line.StatementError.{StatementError}
+use Rattle.program_meaning.specs.declared.line.StatementError.TheVariants as error
+use Rattle.program_meaning.specs.State.{State, known}
+use Rattle.program_meaning.specs.Grids.{lows, MeanNoGrid, IsGridAnswer, grid_text}
+use Rattle.program_meaning.specs.Meaning.{meaning}
+use Rattle.session_state.specs.Numbered.{numbered}
+use Rattle.program_meaning.specs.Reply.{IsLine}
+use Rattle.form_commands.specs.Replies.{use_of, Refuses, IsQueryAnswer}
+use Rattle.program_meaning.specs.Places.{by_names}
+use Rattle.program_meaning.specs.Points.{IsQuantified}
+use Rattle.session_state.specs.declared.state.SessionState.{SessionState}
+use Rattle.session_state.specs.Growth.{KeepsState}
+use Rattle.session_state.specs.Keeping.{state_of, IsSessionState}
+use Rattle.session_state.specs.Scripted.{IsScripted}
+use Rattle.form_commands.proofs.CaseLemmas.{err_map}
+use Rattle.form_commands.proofs.FromEngineAnswers.{whole_where_asked}
+use Rattle.form_commands.specs.Reading.{HasNumbers, IsReadable}
+use Rattle.form_commands.proofs.ReadLemmas.{readable_formula}
 use Rattle.point_queries.specs.Asked.{HaveNumbers, entry_names, IsClear, IsReadAs, IsValued, ValuedStop}
 use Rattle.point_queries.specs.GridSteps.{RefusesGrid, AcceptsGrid, AxesStop, IsMeantGrid, NoGrid, TruthsStop}
 use Rattle.point_queries.proofs.AskedSteps.{same, theory, there_not, named_session, start, session_named, numbers_there, entries_there, state_later, session_later}

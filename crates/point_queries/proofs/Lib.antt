@@ -12,6 +12,3 @@ pub mod TruthSteps
 pub mod GridSteps
 pub mod SampleLemmas
 pub mod SampleSteps
-pub mod FromProblemReading
-pub mod FromSessionState
-pub mod FromSharedForms

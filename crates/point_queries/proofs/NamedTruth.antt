@@ -3,24 +3,25 @@ use Rattle.std.proofs.Common.{◌≡◌, ◌↔◌, inl, inr, ℕ, zero, suc, �
 use Rattle.std.proofs.Math.IntN.{pos}
 use Rattle.std.specs.Prelude.{unwrap_or, option_map, slice_get}
 use Rattle.std.specs.List.{IsDistinct}
-use Rattle.formula_meaning.specs.Point.{Point, Of}
-use Rattle.formula_meaning.specs.Points.{AgreeOn}
-use Rattle.formula_meaning.specs.Tree.{TrueAt, IsFree}
-use Rattle.formula_meaning.proofs.FreeNames.{tree_agrees}
-use Rattle.qe_syntax.specs.Trees.{FormulaTree}
-use Rattle.qe_syntax.specs.Value.{same_name}
-use Rattle.qe_syntax.specs.Value as written
-use Rattle.qe_syntax.specs.Valued.{IsIn}
-use Rattle.resolved_formulas.specs.Resolving.{at_names, resolve, bound_truth}
-use Rattle.formula_tree.specs.Names.{place}
+use Rattle.logic_meaning.specs.Point.{Point, Of}
+use Rattle.formula_laws.specs.Points.{AgreeOn}
+use Rattle.logic_meaning.specs.Tree.{TrueAt, IsFree}
+use Rattle.formula_laws.proofs.FreeNames.{tree_agrees}
+use Rattle.language_meaning.specs.Trees.{FormulaTree}
+use Rattle.language_meaning.specs.Value.{same_name}
+use Rattle.language_meaning.specs.Value as written
+use Rattle.written_syntax.specs.Valued.{IsIn}
+use Rattle.language_meaning.specs.Resolving.{at_names, resolve, bound_truth}
+use Rattle.logic_meaning.specs.Names.{place}
 use Rattle.resolved_formulas.proofs.PlaceLaws.{slice_place, one_place}
-use Rattle.session_meaning.specs.State.{State, known}
-use Rattle.session_meaning.specs.Places.{by_names}
-use Rattle.problem_reading.specs.FromSessionState.{IsSound, IsScripted}
-use Rattle.problem_reading.proofs.FromSharedForms.{free_below}
-use Rattle.problem_reading.specs.Reading.{HasNumbers, IsReadable}
-use Rattle.problem_reading.proofs.ReadLemmas.{readable_formula}
-use Rattle.problem_reading.proofs.ReadTruth.{truth_as_written}
+use Rattle.program_meaning.specs.State.{State, known}
+use Rattle.program_meaning.specs.Places.{by_names}
+use Rattle.session_state.specs.Keeping.{IsSound}
+use Rattle.session_state.specs.Scripted.{IsScripted}
+use Rattle.form_commands.proofs.EliminatedLemmas.{free_below}
+use Rattle.form_commands.specs.Reading.{HasNumbers, IsReadable}
+use Rattle.form_commands.proofs.ReadLemmas.{readable_formula}
+use Rattle.form_commands.proofs.ReadTruth.{truth_as_written}
 
 -- each number below the length of the list is that of a name
 name_at : (names : List (List ℕ)) (n : ℕ) → n < length names → (x : List ℕ) × (slice_get names n ≡ Some x) × IsIn x names

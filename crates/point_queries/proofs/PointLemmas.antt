@@ -15,42 +15,42 @@ use Rattle.exact_numbers.proofs.Floor.{divides_from_residue, residue_of_multiple
 use Rattle.exact_numbers.proofs.FractionRule.{divisor_positive}
 use Rattle.exact_numbers.proofs.GreatestDivisor.{gcd_is}
 use Rattle.exact_numbers.proofs.LeastMultiple.{exact_div}
-use Rattle.formula_meaning.specs.Context.{Context, Fields, Integers}
-use Rattle.formula_meaning.specs.Formula.{Formula, Formulas, Yes, No, One, Not, And, Or, Impl, Repl, Equiv, Ex, All, none, also}
-use Rattle.formula_meaning.specs.Atom.{form_of}
-use Rattle.formula_meaning.specs.Replaced.{replaced, all_replaced}
-use Rattle.formula_meaning.specs.Shape.{IsQuantifierFree, AreQuantifierFree}
-use Rattle.formula_meaning.specs.Plain.{IsAtomic}
-use Rattle.formula_meaning.specs.Tree.{Tree}
-use Rattle.formula_meaning.proofs.SamePoint.{point_same}
-use Rattle.atom_normal.specs.declared.atoms.Context as atoms
-use Rattle.atom_normal.specs.Atoms.{context_of}
-use Rattle.atom_normal.proofs.NormalLaws.{normal_atomic}
-use Rattle.linear_forms.specs.Terms.{ValuePasses}
+use Rattle.logic_meaning.specs.Context.{Context, Fields, Integers}
+use Rattle.logic_meaning.specs.Formula.{Formula, Formulas, Yes, No, One, Not, And, Or, Impl, Repl, Equiv, Ex, All, none, also}
+use Rattle.logic_meaning.specs.Atom.{form_of}
+use Rattle.logic_meaning.specs.Replaced.{replaced, all_replaced}
+use Rattle.logic_meaning.specs.Shape.{IsQuantifierFree, AreQuantifierFree}
+use Rattle.logic_meaning.specs.Plain.{IsAtomic}
+use Rattle.logic_meaning.specs.Tree.{Tree}
+use Rattle.formula_laws.proofs.SamePoint.{point_same}
+use Rattle.normal_atoms.specs.declared.atoms.Context as atoms
+use Rattle.normal_atoms.specs.Atoms.{context_of}
+use Rattle.normal_atoms.proofs.NormalLaws.{normal_atomic}
+use Rattle.logic_meaning.specs.Terms.{ValuePasses}
 use Rattle.linear_forms.specs.Values.{Numbers, number_at, point_of}
-use Rattle.formula_meaning.specs.Point.{Point, Of}
-use Rattle.formula_meaning.specs.Some.{SomeOf}
-use Rattle.qe_syntax.specs.declared.entries.PointEntry.{PointEntry}
-use Rattle.qe_syntax.specs.declared.tree.Literal.{Literal}
-use Rattle.qe_syntax.specs.declared.tree.Literal.TheVariants.{Fits, Past}
-use Rattle.qe_syntax.specs.Point.{HasEntry, IsZeroBelow, IsBroken, lowest_terms, IsCommonMultiple, IsPointOf}
-use Rattle.qe_syntax.specs.declared.tree.Relation.{Relation}
-use Rattle.qe_syntax.specs.Trees.{WrittenAtom, Compare, Cong, Ncong, Bound, FormulaTree}
-use Rattle.qe_syntax.specs.Writable.{AreWritableEntries}
-use Rattle.qe_syntax.specs.Value.{NamedPoint, same_name}
-use Rattle.qe_syntax.specs.Valued.{IsIn}
-use Rattle.qe_syntax.proofs.EntryLists.{some_left, some_right, some_split, some_one}
-use Rattle.qe_syntax.proofs.EntryNumbers.{below_positive}
-use Rattle.formula_tree.specs.Names.{with_name, place}
-use Rattle.formula_tree.specs.Bindings.{bound_to}
-use Rattle.resolved_formulas.specs.Causes.{atom_in_place}
-use Rattle.formula_tree.specs.Quantified.{has_quantifier, some_quantifier}
-use Rattle.resolved_formulas.specs.RationalForms.{RationalForm, Missing, formed, formed_difference}
-use Rattle.resolved_formulas.specs.Resolving.{BoundTrees, at_names, resolve, resolved_atom, compared, congruent}
+use Rattle.logic_meaning.specs.Point.{Point, Of}
+use Rattle.logic_meaning.specs.Some.{SomeOf}
+use Rattle.language_meaning.specs.declared.entries.PointEntry.{PointEntry}
+use Rattle.language_meaning.specs.declared.tree.Literal.{Literal}
+use Rattle.language_meaning.specs.declared.tree.Literal.TheVariants.{Fits, Past}
+use Rattle.language_meaning.specs.Point.{HasEntry, IsZeroBelow, IsBroken, lowest_terms, IsCommonMultiple, IsPointOf}
+use Rattle.language_meaning.specs.declared.tree.Relation.{Relation}
+use Rattle.language_meaning.specs.Trees.{WrittenAtom, Compare, Cong, Ncong, Bound, FormulaTree}
+use Rattle.written_syntax.specs.Writable.{AreWritableEntries}
+use Rattle.language_meaning.specs.Value.{NamedPoint, same_name}
+use Rattle.written_syntax.specs.Valued.{IsIn}
+use Rattle.written_syntax.proofs.EntryLists.{some_left, some_right, some_split, some_one}
+use Rattle.written_syntax.proofs.EntryNumbers.{below_positive}
+use Rattle.logic_meaning.specs.Names.{with_name, place}
+use Rattle.logic_meaning.specs.Bindings.{bound_to}
+use Rattle.language_meaning.specs.Causes.{atom_in_place}
+use Rattle.logic_meaning.specs.Quantified.{has_quantifier, some_quantifier}
+use Rattle.language_meaning.specs.RationalForms.{RationalForm, Missing, formed, formed_difference}
+use Rattle.language_meaning.specs.Resolving.{BoundTrees, at_names, resolve, resolved_atom, compared, congruent}
 use Rattle.resolved_formulas.proofs.PlaceLaws.{slice_place, one_place, at_place}
 use Rattle.formula_store.specs.Truths.{Tells, SomeAtomPasses}
-use Rattle.session_meaning.specs.FromFreeNames.{HasEntryAt}
-use Rattle.session_meaning.specs.Points.{MeanNoPoint, IsQuantified, SomeAtomPassesAt}
+use Rattle.language_meaning.specs.Entries.{HasEntryAt}
+use Rattle.program_meaning.specs.Points.{MeanNoPoint, IsQuantified, SomeAtomPassesAt}
 
 -- ---- numbers put in
 

@@ -1,48 +1,49 @@
 -- The sample at a point, and why it is refused.
 use Rattle.std.proofs.Common.{◌↔◌, inr, ℕ, ◌<◌, List, [], ◌∷◌, Bool, None, Some, Option, subst, sym, refl}
 use Rattle.std.specs.List.{IsDistinct}
-use Rattle.formula_meaning.specs.Context.{Context}
-use Rattle.formula_meaning.specs.Every.{Every}
-use Rattle.formula_meaning.specs.Point.{Point, Of}
-use Rattle.formula_meaning.specs.Some.{EachOf}
-use Rattle.formula_meaning.specs.Tree.{Tree, TrueAt}
-use Rattle.atom_normal.specs.NormalForm.{IsNormal}
-use Rattle.elimination_reference.specs.Cases.{case_sign, case_formula}
-use Rattle.elimination_reference.proofs.CasesExact.{says}
-use Rattle.plain_engine.specs.declared.measured.Measured.{Measured}
-use Rattle.plain_engine.specs.declared.measured.Measured.TheVariants as measured
-use Rattle.plain_engine.specs.Told.{StopsWith}
-use Rattle.sample_reference.specs.Sample.{reference_sample}
+use Rattle.logic_meaning.specs.Context.{Context}
+use Rattle.logic_meaning.specs.Every.{Every}
+use Rattle.logic_meaning.specs.Point.{Point, Of}
+use Rattle.logic_meaning.specs.Some.{EachOf}
+use Rattle.logic_meaning.specs.Tree.{Tree, TrueAt}
+use Rattle.logic_meaning.specs.NormalForm.{IsNormal}
+use Rattle.logic_meaning.specs.Cases.{case_sign, case_formula}
+use Rattle.elimination_theory.proofs.CasesExact.{says}
+use Rattle.reference_engine.specs.declared.measured.Measured.{Measured}
+use Rattle.reference_engine.specs.declared.measured.Measured.TheVariants as measured
+use Rattle.reference_engine.specs.Told.{StopsWith}
+use Rattle.logic_meaning.specs.ReferenceSample.{reference_sample}
 use Rattle.sample_reference.specs.TrueSample.{IsTrueSample}
 use Rattle.std.specs.declared.vec.Vec.{Vec}
 use Rattle.std.specs.declared.alloc.Global.{Global}
 use Rattle.exact_numbers.specs.declared.fraction.Fraction.{Fraction}
-use Rattle.linear_forms.specs.declared.form.VarId.{VarId}
+use Rattle.logic_meaning.specs.declared.form.VarId.{VarId}
 use Rattle.sample_reference.specs.Seen.{values_of, sample_of}
-use Rattle.sample_reference.specs.Values.{Value, value_names}
-use Rattle.session_meaning.specs.FromAnswerTexts.{AreValuesWithin}
-use Rattle.qe_syntax.specs.declared.entries.PointEntry.{PointEntry}
-use Rattle.qe_syntax.specs.Point.{IsPointOf}
-use Rattle.statement_syntax.specs.Statements.{Sample}
-use Rattle.qe_syntax.specs.Trees.{FormulaTree}
-use Rattle.qe_syntax.specs.Value.{NamedPoint, same_name}
-use Rattle.resolved_formulas.specs.Resolving.{at_names, resolve}
-use Rattle.session_meaning.specs.declared.line.StatementError.{StatementError}
-use Rattle.session_meaning.specs.declared.line.StatementError.TheVariants as error
-use Rattle.session_meaning.specs.State.{State, known}
-use Rattle.problem_reading.specs.FromCommandTools.{use_of, measured_refusal}
-use Rattle.problem_reading.specs.Reading.{HasNumbers, IsReadable}
+use Rattle.logic_meaning.specs.Values.{Value, value_names}
+use Rattle.redlog_printer.specs.Within.{AreValuesWithin}
+use Rattle.language_meaning.specs.declared.entries.PointEntry.{PointEntry}
+use Rattle.language_meaning.specs.Point.{IsPointOf}
+use Rattle.language_meaning.specs.Statements.{Sample}
+use Rattle.language_meaning.specs.Trees.{FormulaTree}
+use Rattle.language_meaning.specs.Value.{NamedPoint, same_name}
+use Rattle.language_meaning.specs.Resolving.{at_names, resolve}
+use Rattle.program_meaning.specs.declared.line.StatementError.{StatementError}
+use Rattle.program_meaning.specs.declared.line.StatementError.TheVariants as error
+use Rattle.program_meaning.specs.State.{State, known}
+use Rattle.form_commands.specs.Replies.{use_of}
+use Rattle.form_commands.specs.Refusals.{measured_refusal}
+use Rattle.form_commands.specs.Reading.{HasNumbers, IsReadable}
 use Rattle.point_queries.specs.Asked.{AcceptsBoth}
-use Rattle.session_meaning.specs.Meaning.{meaning}
-use Rattle.session_meaning.specs.Causes.{HasNone}
-use Rattle.session_meaning.specs.Words.{before}
-use Rattle.session_meaning.specs.FormulaAnswers.{negation_normal_of}
-use Rattle.problem_reading.specs.FromSessionState.{IsSessionFormula}
-use Rattle.session_meaning.specs.Samples.{HasSample, IsSample, IsValueInLimit}
+use Rattle.program_meaning.specs.Meaning.{meaning}
+use Rattle.program_meaning.specs.Causes.{HasNone}
+use Rattle.program_meaning.specs.Words.{before}
+use Rattle.program_meaning.specs.FormulaAnswers.{negation_normal_of}
+use Rattle.session_state.specs.Keeping.{IsSessionFormula}
+use Rattle.program_meaning.specs.Samples.{HasSample, IsSample, IsValueInLimit}
 use Rattle.point_queries.specs.SampleSteps.{RefusesSample, SampleStop, IsSampleWithin}
-use Rattle.problem_reading.proofs.CauseLemmas.{none_before}
-use Rattle.problem_reading.proofs.FromSharedForms.{block_below, turned_says, turned_along}
-use Rattle.problem_reading.proofs.ReadTruth.{truth_as_written}
+use Rattle.form_commands.proofs.CauseLemmas.{none_before}
+use Rattle.form_commands.proofs.CaseLemmas.{block_below, turned_says, turned_along}
+use Rattle.form_commands.proofs.ReadTruth.{truth_as_written}
 
 -- ---- the names of the values
 

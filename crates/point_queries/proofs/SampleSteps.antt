@@ -5,49 +5,54 @@ use Rattle.std.specs.List.{fold}
 use Rattle.std.specs.declared.vec.Vec.{Vec}
 use Rattle.std.specs.declared.alloc.Global.{Global}
 use Rattle.exact_numbers.specs.declared.fraction.Fraction.{Fraction}
-use Rattle.formula_meaning.specs.Context.{Context}
-use Rattle.formula_meaning.specs.Point.{Point}
-use Rattle.formula_meaning.specs.Sizes.{height}
-use Rattle.formula_meaning.specs.Tree.{Tree}
-use Rattle.atom_normal.specs.declared.atoms.Context as atoms
-use Rattle.atom_normal.specs.Atoms.{context_of}
-use Rattle.problem_reading.specs.FromBlockScheduler.{Limits}
-use Rattle.atom_normal.proofs.Stepped.{ok_map}
-use Rattle.linear_forms.specs.declared.form.VarId.{VarId}
-use Rattle.plain_engine.specs.declared.measured.Measured.{Measured}
-use Rattle.plain_engine.specs.Told.{StopsWith}
-use Rattle.sample_reference.specs.Sample.{reference_sample}
+use Rattle.logic_meaning.specs.Context.{Context}
+use Rattle.logic_meaning.specs.Point.{Point}
+use Rattle.logic_meaning.specs.Sizes.{height}
+use Rattle.logic_meaning.specs.Tree.{Tree}
+use Rattle.normal_atoms.specs.declared.atoms.Context as atoms
+use Rattle.normal_atoms.specs.Atoms.{context_of}
+use Rattle.form_commands.specs.FromEngineAnswers.{Limits}
+use Rattle.normal_atoms.proofs.Stepped.{ok_map}
+use Rattle.logic_meaning.specs.declared.form.VarId.{VarId}
+use Rattle.reference_engine.specs.declared.measured.Measured.{Measured}
+use Rattle.reference_engine.specs.Told.{StopsWith}
+use Rattle.logic_meaning.specs.ReferenceSample.{reference_sample}
 use Rattle.sample_reference.specs.TrueSample.{IsTrueSample}
 use Rattle.sample_reference.specs.Seen.{sample_of}
-use Rattle.sample_reference.specs.Values.{Value}
-use Rattle.qe_syntax.specs.declared.entries.PointEntry.{PointEntry}
-use Rattle.qe_syntax.specs.PointNumbers.{Numbers, point_of}
-use Rattle.qe_syntax.specs.Writable.{AreWritableEntries}
-use Rattle.statement_syntax.specs.Statements.{Sample}
-use Rattle.qe_syntax.specs.Trees.{FormulaTree}
-use Rattle.resolved_formulas.specs.Causes.{most_height}
-use Rattle.formula_tree.specs.Names.{with_name}
-use Rattle.resolved_formulas.specs.Resolving.{at_names, formula_variables, resolve}
+use Rattle.logic_meaning.specs.Values.{Value}
+use Rattle.language_meaning.specs.declared.entries.PointEntry.{PointEntry}
+use Rattle.written_syntax.specs.PointNumbers.{Numbers, point_of}
+use Rattle.written_syntax.specs.Writable.{AreWritableEntries}
+use Rattle.language_meaning.specs.Statements.{Sample}
+use Rattle.language_meaning.specs.Trees.{FormulaTree}
+use Rattle.language_meaning.specs.Causes.{most_height}
+use Rattle.logic_meaning.specs.Names.{with_name}
+use Rattle.language_meaning.specs.Resolving.{at_names, formula_variables, resolve}
 use Rattle.resolved_formulas.proofs.ResolvedHeight.{resolving_keeps_height}
 use Rattle.formula_resolving.specs.Numbering.{Grows}
 use Rattle.formula_store.specs.declared.id.FormulaId.{FormulaId}
 use Rattle.formula_store.specs.Nodes.{tree}
-use Rattle.redlog_printer.specs.Writing.{text_limit}
-use Rattle.session_meaning.specs.declared.line.Line.{Line}
-use Rattle.session_meaning.specs.declared.line.StatementError.{StatementError}
-use Rattle.problem_reading.specs.FromSessionState.{SessionState, state_of, IsSessionState, KeepsState, IsScripted}
-use Rattle.session_meaning.specs.State.{State, known}
-use Rattle.problem_reading.specs.FromCommandTools.{use_of, Refuses, IsQueryAnswer, measured_refusal}
-use Rattle.problem_reading.specs.Reading.{HasNumbers}
+use Rattle.logic_meaning.specs.Writing.{text_limit}
+use Rattle.program_meaning.specs.declared.line.Line.{Line}
+use Rattle.program_meaning.specs.declared.line.StatementError.{StatementError}
+use Rattle.session_state.specs.declared.state.SessionState.{SessionState}
+use Rattle.session_state.specs.Keeping.{state_of, IsSessionState}
+use Rattle.session_state.specs.Growth.{KeepsState}
+use Rattle.session_state.specs.Scripted.{IsScripted}
+use Rattle.program_meaning.specs.State.{State, known}
+use Rattle.form_commands.specs.Replies.{use_of, Refuses, IsQueryAnswer}
+use Rattle.form_commands.specs.Refusals.{measured_refusal}
+use Rattle.form_commands.specs.Reading.{HasNumbers}
 use Rattle.point_queries.specs.Asked.{entry_names, IsAsked}
-use Rattle.session_meaning.specs.Meaning.{meaning}
-use Rattle.session_meaning.specs.Numbered.{numbered}
-use Rattle.session_meaning.specs.Reply.{IsLine}
-use Rattle.session_meaning.specs.Samples.{sample_text}
+use Rattle.program_meaning.specs.Meaning.{meaning}
+use Rattle.session_state.specs.Numbered.{numbered}
+use Rattle.program_meaning.specs.Reply.{IsLine}
+use Rattle.program_meaning.specs.Samples.{sample_text}
 use Rattle.point_queries.specs.SampleSteps.{RefusesSample, SampleStop, IsSampleWithin, IsWantedSample}
 use Rattle.point_queries.proofs.AskedSteps.{theory, asked_normal, named_session, start}
-use Rattle.problem_reading.proofs.FromSharedForms.{err_map, sample_short}
-use Rattle.problem_reading.proofs.ReadLemmas.{readable_formula}
+use Rattle.form_commands.proofs.CaseLemmas.{err_map}
+use Rattle.form_commands.proofs.ShortSamples.{sample_short}
+use Rattle.form_commands.proofs.ReadLemmas.{readable_formula}
 use Rattle.point_queries.proofs.SampleLemmas.{sample_stops, sample_is, sample_within}
 
 -- ---- the sample that an engine gives

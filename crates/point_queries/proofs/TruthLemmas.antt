@@ -2,36 +2,37 @@
 use Rattle.std.proofs.Common.{◌≡◌, inl, inr, ℕ, List, [], ◌∷◌, Bool, true, false, IsTrue, ◌↔◌, None, sym, subst, refl}
 use Rattle.std.proofs.lemmas.Bool.{false≢true}
 use Rattle.std.specs.List.{IsDistinct}
-use Rattle.formula_meaning.specs.Context.{Context}
-use Rattle.formula_meaning.specs.Point.{Point, Of}
-use Rattle.formula_meaning.specs.Tree.{Tree, TrueAt}
-use Rattle.atom_normal.specs.declared.atoms.Context as atoms
-use Rattle.atom_normal.specs.Atoms.{context_of}
-use Rattle.problem_reading.specs.FromBlockScheduler.{Limits}
-use Rattle.qe_syntax.specs.declared.entries.PointEntry.{PointEntry}
-use Rattle.qe_syntax.specs.Point.{IsPointOf}
-use Rattle.statement_syntax.specs.Statements.{Holds}
-use Rattle.qe_syntax.specs.Trees.{FormulaTree}
-use Rattle.qe_syntax.specs.Value.{NamedPoint, same_name}
-use Rattle.resolved_formulas.specs.Resolving.{at_names, resolve}
+use Rattle.logic_meaning.specs.Context.{Context}
+use Rattle.logic_meaning.specs.Point.{Point, Of}
+use Rattle.logic_meaning.specs.Tree.{Tree, TrueAt}
+use Rattle.normal_atoms.specs.declared.atoms.Context as atoms
+use Rattle.normal_atoms.specs.Atoms.{context_of}
+use Rattle.form_commands.specs.FromEngineAnswers.{Limits}
+use Rattle.language_meaning.specs.declared.entries.PointEntry.{PointEntry}
+use Rattle.language_meaning.specs.Point.{IsPointOf}
+use Rattle.language_meaning.specs.Statements.{Holds}
+use Rattle.language_meaning.specs.Trees.{FormulaTree}
+use Rattle.language_meaning.specs.Value.{NamedPoint, same_name}
+use Rattle.language_meaning.specs.Resolving.{at_names, resolve}
 use Rattle.formula_store.specs.Truths.{Tells}
-use Rattle.elimination_reference.specs.Sample.{reference_at}
-use Rattle.plain_engine.specs.declared.measured.Measured.{Measured}
-use Rattle.plain_engine.specs.declared.measured.Measured.TheVariants as measured
-use Rattle.plain_engine.specs.Told.{StopsWith}
-use Rattle.session_meaning.specs.declared.line.StatementError.{StatementError}
-use Rattle.session_meaning.specs.declared.line.StatementError.TheVariants as error
-use Rattle.session_meaning.specs.State.{State, known}
-use Rattle.problem_reading.specs.FromCommandTools.{use_of, measured_refusal}
-use Rattle.problem_reading.specs.Reading.{HasNumbers, IsReadable}
+use Rattle.logic_meaning.specs.Sample.{reference_at}
+use Rattle.reference_engine.specs.declared.measured.Measured.{Measured}
+use Rattle.reference_engine.specs.declared.measured.Measured.TheVariants as measured
+use Rattle.reference_engine.specs.Told.{StopsWith}
+use Rattle.program_meaning.specs.declared.line.StatementError.{StatementError}
+use Rattle.program_meaning.specs.declared.line.StatementError.TheVariants as error
+use Rattle.program_meaning.specs.State.{State, known}
+use Rattle.form_commands.specs.Replies.{use_of}
+use Rattle.form_commands.specs.Refusals.{measured_refusal}
+use Rattle.form_commands.specs.Reading.{HasNumbers, IsReadable}
 use Rattle.point_queries.specs.Asked.{AcceptsBoth}
-use Rattle.session_meaning.specs.Meaning.{meaning}
-use Rattle.session_meaning.specs.Causes.{HasNone}
-use Rattle.session_meaning.specs.Words.{before}
-use Rattle.session_meaning.specs.Points.{IsQuantified, IsTruth}
-use Rattle.problem_reading.proofs.CauseLemmas.{none_before}
+use Rattle.program_meaning.specs.Meaning.{meaning}
+use Rattle.program_meaning.specs.Causes.{HasNone}
+use Rattle.program_meaning.specs.Words.{before}
+use Rattle.program_meaning.specs.Points.{IsQuantified, IsTruth}
+use Rattle.form_commands.proofs.CauseLemmas.{none_before}
 use Rattle.point_queries.specs.Truths.{RefusesTruth, ValueStop, EliminationStop}
-use Rattle.problem_reading.proofs.ReadTruth.{truth_as_written}
+use Rattle.form_commands.proofs.ReadTruth.{truth_as_written}
 
 module _ (s : State) (f : FormulaTree) (es : List PointEntry) (p : NamedPoint) (meant : IsPointOf es p) where
   -- ---- refusals

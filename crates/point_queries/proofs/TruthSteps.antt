@@ -2,38 +2,41 @@
 use Rattle.std.proofs.Common.{◌≡◌, ◌↔◌, IsTrue, ℕ, List, ◌++◌, Bool, None, sym, subst}
 use Rattle.std.specs.Prelude.{Result, IfOk, IfErr, OnOk}
 use Rattle.std.specs.List.{fold}
-use Rattle.formula_meaning.specs.Shape.{IsQuantifierFree}
-use Rattle.formula_meaning.specs.Tree.{Tree, TrueAt}
-use Rattle.atom_normal.specs.Atoms.{context_of}
-use Rattle.atom_normal.proofs.Stepped.{ok_map}
-use Rattle.qe_syntax.specs.declared.entries.PointEntry.{PointEntry}
-use Rattle.qe_syntax.specs.PointNumbers.{Numbers, point_of}
-use Rattle.qe_syntax.specs.Writable.{AreWritableEntries}
-use Rattle.statement_syntax.specs.Statements.{Holds}
-use Rattle.qe_syntax.specs.Trees.{FormulaTree}
-use Rattle.formula_tree.specs.Names.{with_name}
-use Rattle.resolved_formulas.specs.Resolving.{at_names, formula_variables, resolve}
+use Rattle.logic_meaning.specs.Shape.{IsQuantifierFree}
+use Rattle.logic_meaning.specs.Tree.{Tree, TrueAt}
+use Rattle.normal_atoms.specs.Atoms.{context_of}
+use Rattle.normal_atoms.proofs.Stepped.{ok_map}
+use Rattle.language_meaning.specs.declared.entries.PointEntry.{PointEntry}
+use Rattle.written_syntax.specs.PointNumbers.{Numbers, point_of}
+use Rattle.written_syntax.specs.Writable.{AreWritableEntries}
+use Rattle.language_meaning.specs.Statements.{Holds}
+use Rattle.language_meaning.specs.Trees.{FormulaTree}
+use Rattle.logic_meaning.specs.Names.{with_name}
+use Rattle.language_meaning.specs.Resolving.{at_names, formula_variables, resolve}
 use Rattle.formula_resolving.specs.Numbering.{Grows}
 use Rattle.formula_store.specs.declared.id.FormulaId.{FormulaId}
 use Rattle.formula_store.specs.Nodes.{tree}
 use Rattle.formula_store.specs.Truths.{Tells, IsWholeWhereAsked}
-use Rattle.session_meaning.specs.declared.line.Line.{Line}
-use Rattle.session_meaning.specs.declared.line.StatementError.{StatementError}
-use Rattle.problem_reading.specs.FromSessionState.{SessionState, state_of, IsSessionState, KeepsState, IsScripted}
-use Rattle.session_meaning.specs.State.{State, known}
-use Rattle.problem_reading.specs.FromCommandTools.{use_of, Refuses, IsQueryAnswer}
-use Rattle.problem_reading.specs.Reading.{HasNumbers}
+use Rattle.program_meaning.specs.declared.line.Line.{Line}
+use Rattle.program_meaning.specs.declared.line.StatementError.{StatementError}
+use Rattle.session_state.specs.declared.state.SessionState.{SessionState}
+use Rattle.session_state.specs.Keeping.{state_of, IsSessionState}
+use Rattle.session_state.specs.Growth.{KeepsState}
+use Rattle.session_state.specs.Scripted.{IsScripted}
+use Rattle.program_meaning.specs.State.{State, known}
+use Rattle.form_commands.specs.Replies.{use_of, Refuses, IsQueryAnswer}
+use Rattle.form_commands.specs.Reading.{HasNumbers}
 use Rattle.point_queries.specs.Asked.{AcceptsBoth, entry_names, IsAsked}
-use Rattle.session_meaning.specs.Meaning.{meaning}
-use Rattle.session_meaning.specs.Numbered.{numbered}
-use Rattle.session_meaning.specs.Reply.{IsLine}
-use Rattle.session_meaning.specs.Words.{truth_text}
-use Rattle.session_meaning.specs.Points.{IsQuantified, IsTruth}
+use Rattle.program_meaning.specs.Meaning.{meaning}
+use Rattle.session_state.specs.Numbered.{numbered}
+use Rattle.program_meaning.specs.Reply.{IsLine}
+use Rattle.program_meaning.specs.Words.{truth_text}
+use Rattle.program_meaning.specs.Points.{IsQuantified, IsTruth}
 use Rattle.point_queries.specs.Truths.{RefusesTruth, ValueStop, EliminationStop}
 use Rattle.point_queries.proofs.AskedSteps.{same, theory, asked_normal, named_session, start}
-use Rattle.problem_reading.proofs.FromSharedForms.{err_map}
+use Rattle.form_commands.proofs.CaseLemmas.{err_map}
 use Rattle.point_queries.proofs.CaseSteps.{on_ok}
-use Rattle.problem_reading.proofs.FromEngineAnswers.{whole_where_asked}
+use Rattle.form_commands.proofs.FromEngineAnswers.{whole_where_asked}
 use Rattle.point_queries.proofs.PointLemmas.{resolved_free}
 use Rattle.point_queries.proofs.TruthLemmas.{truth_passes, elimination_stops, is_truth, told_in}
 

@@ -2,32 +2,32 @@
 -- variables of the command have their numbers.
 use Rattle.std.specs.Prelude.{◌≡◌, ◌⊎◌, ℕ, List, Bool, true, false, Option, Some, None, MatchOption, map}
 use Rattle.std.specs.List.{AllByRecursion}
-use Rattle.formula_meaning.specs.Context.{Context, Fields, Integers}
-use Rattle.formula_meaning.specs.Formula.{none, also}
-use Rattle.formula_meaning.specs.Point.{Of}
-use Rattle.formula_meaning.specs.Some.{SomeOf}
-use Rattle.qe_syntax.specs.declared.entries.PointEntry.{PointEntry}
-use Rattle.qe_syntax.specs.Point.{PassesLimit, IsPointOf}
-use Rattle.qe_syntax.specs.PointNumbers.{Numbers, point_of}
-use Rattle.statement_syntax.specs.Statements.{CommandTree, Holds, Sample}
-use Rattle.qe_syntax.specs.Trees.{FormulaTree}
-use Rattle.qe_syntax.specs.Valued.{IsIn}
-use Rattle.resolved_formulas.specs.Causes.{IsBound, OverflowsInReading}
+use Rattle.logic_meaning.specs.Context.{Context, Fields, Integers}
+use Rattle.logic_meaning.specs.Formula.{none, also}
+use Rattle.logic_meaning.specs.Point.{Of}
+use Rattle.logic_meaning.specs.Some.{SomeOf}
+use Rattle.language_meaning.specs.declared.entries.PointEntry.{PointEntry}
+use Rattle.language_meaning.specs.Point.{PassesLimit, IsPointOf}
+use Rattle.written_syntax.specs.PointNumbers.{Numbers, point_of}
+use Rattle.language_meaning.specs.Statements.{CommandTree, Holds, Sample}
+use Rattle.language_meaning.specs.Trees.{FormulaTree}
+use Rattle.written_syntax.specs.Valued.{IsIn}
+use Rattle.language_meaning.specs.Causes.{IsBound, OverflowsInReading}
 use Rattle.formula_tree.specs.Makers.{IsMade}
-use Rattle.resolved_formulas.specs.Resolving.{resolve}
-use Rattle.formula_tree.specs.Names.{place}
+use Rattle.language_meaning.specs.Resolving.{resolve}
+use Rattle.logic_meaning.specs.Names.{place}
 use Rattle.formula_store.specs.declared.id.FormulaId.{FormulaId}
 use Rattle.formula_store.specs.Nodes.{tree, IsId}
-use Rattle.session_meaning.specs.declared.line.StatementError.{StatementError}
-use Rattle.session_meaning.specs.declared.line.StatementError.TheVariants as error
-use Rattle.problem_reading.specs.FromSessionState.{SessionState}
-use Rattle.session_meaning.specs.State.{State, known}
-use Rattle.session_meaning.specs.Points.{MeanNoPoint, HasUnvalued}
-use Rattle.problem_reading.specs.FromCommandTools.{use_of, Refuses}
-use Rattle.formula_resolving.specs.declared.error.StaticError.TheVariants as static
-use Rattle.problem_reading.specs.Reading.{IsReadable, HasNoEarlier}
-use Rattle.session_meaning.specs.Meaning.{Meaning, meaning}
-use Rattle.session_meaning.specs.Causes.{IsAccepted}
+use Rattle.program_meaning.specs.declared.line.StatementError.{StatementError}
+use Rattle.program_meaning.specs.declared.line.StatementError.TheVariants as error
+use Rattle.session_state.specs.declared.state.SessionState.{SessionState}
+use Rattle.program_meaning.specs.State.{State, known}
+use Rattle.program_meaning.specs.Points.{MeanNoPoint, HasUnvalued}
+use Rattle.form_commands.specs.Replies.{use_of, Refuses}
+use Rattle.language_meaning.specs.declared.static_error.StaticError.TheVariants as static
+use Rattle.form_commands.specs.Reading.{IsReadable, HasNoEarlier}
+use Rattle.program_meaning.specs.Meaning.{Meaning, meaning}
+use Rattle.program_meaning.specs.Causes.{IsAccepted}
 
 -- the names of the entries stand in the list
 abbrev pub HaveNumbers : List (List ℕ) → List PointEntry → Type 0

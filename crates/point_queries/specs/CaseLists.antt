@@ -1,19 +1,20 @@
 -- A command that asks for cases, and why an attempt at it fails, in a state in which the variables of the command have their numbers.
 use Rattle.std.specs.Prelude.{◌≢◌, ℕ, Bool, List, None, map}
-use Rattle.qe_syntax.specs.declared.tree.Formula.{Formula}
-use Rattle.statement_syntax.specs.Statements.{CommandTree, Qea}
-use Rattle.qe_syntax.specs.Trees.{FormulaTree, FormulaTrees, formulas_of}
-use Rattle.qe_syntax.specs.CodeTrees.{formula_tree}
-use Rattle.problem_reading.specs.FromSessionState.{answered_tree}
-use Rattle.session_meaning.specs.declared.line.StatementError.{StatementError}
-use Rattle.session_meaning.specs.declared.line.StatementError.TheVariants as error
-use Rattle.resolved_formulas.specs.Resolving.{resolve}
-use Rattle.session_meaning.specs.Assumptions.{assumed}
-use Rattle.session_meaning.specs.State.{State, known}
-use Rattle.elimination_reference.specs.Cases.{Case}
-use Rattle.problem_reading.specs.FromSharedForms.{Way, AreCasesBy}
-use Rattle.problem_reading.specs.FromSharedForms.way_variants as way
-use Rattle.problem_reading.specs.FromCommandTools.{use_of, Refuses}
+use Rattle.written_syntax.specs.declared.tree.Formula.{Formula}
+use Rattle.language_meaning.specs.Statements.{CommandTree, Qea}
+use Rattle.language_meaning.specs.Trees.{FormulaTree, FormulaTrees, formulas_of}
+use Rattle.written_syntax.specs.CodeTrees.{formula_tree}
+use Rattle.session_state.specs.Scripted.{answered_tree}
+use Rattle.program_meaning.specs.declared.line.StatementError.{StatementError}
+use Rattle.program_meaning.specs.declared.line.StatementError.TheVariants as error
+use Rattle.language_meaning.specs.Resolving.{resolve}
+use Rattle.program_meaning.specs.Assumptions.{assumed}
+use Rattle.program_meaning.specs.State.{State, known}
+use Rattle.logic_meaning.specs.Cases.{Case}
+use Rattle.form_commands.specs.declared.way.Way.{Way}
+use Rattle.form_commands.specs.Cases.{AreCasesBy}
+use Rattle.form_commands.specs.declared.way.Way.TheVariants as way
+use Rattle.form_commands.specs.Replies.{use_of, Refuses}
 
 -- the command that asks for the cases of a formula under assumptions
 abbrev pub cases_command : Formula → List Formula → CommandTree

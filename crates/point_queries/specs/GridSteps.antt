@@ -1,24 +1,24 @@
 -- From the axes of a grid to the truths at its points. The state is one in which the variables of the command have their numbers.
 use Rattle.std.specs.Prelude.{◌≡◌, ◌⊎◌, ℕ, pos, List, Bool, None}
-use Rattle.formula_meaning.specs.Context.{Context}
-use Rattle.formula_meaning.specs.Tree.{Tree}
-use Rattle.qe_syntax.specs.declared.tree.Literal.TheVariants.{Fits, Past}
-use Rattle.qe_syntax.specs.declared.entries.PointEntry.{PointEntry}
-use Rattle.qe_syntax.specs.Trees.{FormulaTree}
-use Rattle.statement_syntax.specs.declared.grid.Ratio.{Ratio}
-use Rattle.statement_syntax.specs.declared.grid.GridAxis.{GridAxis}
-use Rattle.statement_syntax.specs.Statements.{Grid}
-use Rattle.point_grid.specs.declared.axis.Axis.{Axis}
-use Rattle.point_grid.specs.Frames.{Frame}
-use Rattle.point_grid.specs.Grids.{grid_of}
-use Rattle.point_grid.specs.PointPasses.{SomePointPasses}
-use Rattle.session_meaning.specs.declared.line.StatementError.{StatementError}
-use Rattle.session_meaning.specs.declared.line.StatementError.TheVariants as error
-use Rattle.session_meaning.specs.State.{State}
-use Rattle.session_meaning.specs.Grids.{entry_of, AreAxes, MeanNoGrid, PassesGrid, HasTooManyPoints}
-use Rattle.session_meaning.specs.Meaning.{meaning}
-use Rattle.session_meaning.specs.Causes.{IsAccepted}
-use Rattle.problem_reading.specs.FromCommandTools.{use_of, Refuses}
+use Rattle.logic_meaning.specs.Context.{Context}
+use Rattle.logic_meaning.specs.Tree.{Tree}
+use Rattle.language_meaning.specs.declared.tree.Literal.TheVariants.{Fits, Past}
+use Rattle.language_meaning.specs.declared.entries.PointEntry.{PointEntry}
+use Rattle.language_meaning.specs.Trees.{FormulaTree}
+use Rattle.language_meaning.specs.declared.grid.Ratio.{Ratio}
+use Rattle.language_meaning.specs.declared.grid.GridAxis.{GridAxis}
+use Rattle.language_meaning.specs.Statements.{Grid}
+use Rattle.program_meaning.specs.declared.axis.Axis.{Axis}
+use Rattle.program_meaning.specs.Frames.{Frame}
+use Rattle.program_meaning.specs.GridPoints.{grid_of}
+use Rattle.program_meaning.specs.PointPasses.{SomePointPasses}
+use Rattle.program_meaning.specs.declared.line.StatementError.{StatementError}
+use Rattle.program_meaning.specs.declared.line.StatementError.TheVariants as error
+use Rattle.program_meaning.specs.State.{State}
+use Rattle.program_meaning.specs.Grids.{entry_of, AreAxes, MeanNoGrid, PassesGrid, HasTooManyPoints}
+use Rattle.program_meaning.specs.Meaning.{meaning}
+use Rattle.program_meaning.specs.Causes.{IsAccepted}
+use Rattle.form_commands.specs.Replies.{use_of, Refuses}
 use Rattle.point_queries.specs.declared.grids.Part.{Part}
 use Rattle.point_queries.specs.declared.grids.Part.TheVariants as part
 

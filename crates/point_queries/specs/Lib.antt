@@ -3,9 +3,3 @@ pub mod Asked
 pub mod Truths
 pub mod SampleSteps
 pub mod GridSteps
-pub mod FromBlockScheduler
-pub mod FromCommandTools
-pub mod FromProblemReading
-pub mod FromSessionState
-pub mod FromSharedForms
-pub mod FromStandingAssumptions

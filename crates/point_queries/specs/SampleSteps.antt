@@ -1,23 +1,24 @@
 -- What the steps of a sample give one another, in a state in which the variables of the command have their numbers.
 use Rattle.std.specs.Prelude.{◌≡◌, ◌≤◌, ℕ, List, Bool, Option, Some, None, length}
-use Rattle.formula_meaning.specs.Context.{Context}
-use Rattle.formula_meaning.specs.Point.{Point}
-use Rattle.formula_meaning.specs.Tree.{Tree}
-use Rattle.sample_reference.specs.Sample.{reference_sample}
-use Rattle.plain_engine.specs.declared.measured.Measured.{Measured}
-use Rattle.plain_engine.specs.Told.{StopsWith}
-use Rattle.sample_reference.specs.Values.{Value}
-use Rattle.session_meaning.specs.FromAnswerTexts.{AreValuesWithin}
-use Rattle.redlog_printer.specs.Writing.{text_limit}
-use Rattle.qe_syntax.specs.declared.entries.PointEntry.{PointEntry}
-use Rattle.statement_syntax.specs.Statements.{Sample}
-use Rattle.qe_syntax.specs.Trees.{FormulaTree}
-use Rattle.session_meaning.specs.declared.line.StatementError.{StatementError}
-use Rattle.session_meaning.specs.State.{State}
-use Rattle.session_meaning.specs.Samples.{IsSampleAnswer, sample_text}
-use Rattle.problem_reading.specs.FromCommandTools.{use_of, Refuses, measured_refusal}
-use Rattle.session_meaning.specs.Meaning.{meaning}
-use Rattle.session_meaning.specs.Causes.{IsAccepted}
+use Rattle.logic_meaning.specs.Context.{Context}
+use Rattle.logic_meaning.specs.Point.{Point}
+use Rattle.logic_meaning.specs.Tree.{Tree}
+use Rattle.logic_meaning.specs.ReferenceSample.{reference_sample}
+use Rattle.reference_engine.specs.declared.measured.Measured.{Measured}
+use Rattle.reference_engine.specs.Told.{StopsWith}
+use Rattle.logic_meaning.specs.Values.{Value}
+use Rattle.redlog_printer.specs.Within.{AreValuesWithin}
+use Rattle.logic_meaning.specs.Writing.{text_limit}
+use Rattle.language_meaning.specs.declared.entries.PointEntry.{PointEntry}
+use Rattle.language_meaning.specs.Statements.{Sample}
+use Rattle.language_meaning.specs.Trees.{FormulaTree}
+use Rattle.program_meaning.specs.declared.line.StatementError.{StatementError}
+use Rattle.program_meaning.specs.State.{State}
+use Rattle.program_meaning.specs.Samples.{IsSampleAnswer, sample_text}
+use Rattle.form_commands.specs.Replies.{use_of, Refuses}
+use Rattle.form_commands.specs.Refusals.{measured_refusal}
+use Rattle.program_meaning.specs.Meaning.{meaning}
+use Rattle.program_meaning.specs.Causes.{IsAccepted}
 
 -- the command is refused with the word under a limit of nodes, whether its line is printed or not
 abbrev pub RefusesSample : State → ℕ → FormulaTree → List PointEntry → StatementError → Type 0

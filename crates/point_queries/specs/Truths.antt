@@ -1,19 +1,20 @@
 -- Why the truth at a point is not answered, in a state in which the variables of the command have their numbers.
 use Rattle.std.specs.Prelude.{◌≡◌, ◌⊎◌, ℕ, List, Bool, None}
-use Rattle.formula_meaning.specs.Context.{Context}
-use Rattle.formula_meaning.specs.Point.{Point}
-use Rattle.formula_meaning.specs.Tree.{Tree}
-use Rattle.elimination_reference.specs.Sample.{reference_at}
-use Rattle.plain_engine.specs.declared.measured.Measured.{Measured}
-use Rattle.plain_engine.specs.Told.{StopsWith}
-use Rattle.qe_syntax.specs.declared.entries.PointEntry.{PointEntry}
-use Rattle.statement_syntax.specs.Statements.{Holds}
-use Rattle.qe_syntax.specs.Trees.{FormulaTree}
-use Rattle.session_meaning.specs.declared.line.StatementError.{StatementError}
-use Rattle.session_meaning.specs.declared.line.StatementError.TheVariants as error
-use Rattle.session_meaning.specs.State.{State}
-use Rattle.session_meaning.specs.Points.{SomeAtomPassesAt}
-use Rattle.problem_reading.specs.FromCommandTools.{use_of, Refuses, measured_refusal}
+use Rattle.logic_meaning.specs.Context.{Context}
+use Rattle.logic_meaning.specs.Point.{Point}
+use Rattle.logic_meaning.specs.Tree.{Tree}
+use Rattle.logic_meaning.specs.Sample.{reference_at}
+use Rattle.reference_engine.specs.declared.measured.Measured.{Measured}
+use Rattle.reference_engine.specs.Told.{StopsWith}
+use Rattle.language_meaning.specs.declared.entries.PointEntry.{PointEntry}
+use Rattle.language_meaning.specs.Statements.{Holds}
+use Rattle.language_meaning.specs.Trees.{FormulaTree}
+use Rattle.program_meaning.specs.declared.line.StatementError.{StatementError}
+use Rattle.program_meaning.specs.declared.line.StatementError.TheVariants as error
+use Rattle.program_meaning.specs.State.{State}
+use Rattle.program_meaning.specs.Points.{SomeAtomPassesAt}
+use Rattle.form_commands.specs.Replies.{use_of, Refuses}
+use Rattle.form_commands.specs.Refusals.{measured_refusal}
 
 -- the command is refused with the word under a limit of nodes, whether its line is printed or not
 abbrev pub RefusesTruth : State → ℕ → FormulaTree → List PointEntry → StatementError → Type 0

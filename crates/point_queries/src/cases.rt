@@ -1,28 +1,34 @@
 //! The case list of a formula.
 
-ghost use Rattle.formula_meaning.specs.Formula.{also};
+ghost use Rattle.logic_meaning.specs.Formula.{also};
 ghost use Rattle.std.specs.Prelude.{◌≡◌, ◌≤◌, Bool, None, map, IfOk, IfErr, OnOk, OnErr, length};
-ghost use Rattle.session_meaning.specs.FromPlainCases.{case_seen, HavePoints};
-ghost use Rattle.session_meaning.specs.FromAnswerTexts.{cases_text as text_of_cases, AreCasesWithin};
-ghost use Rattle.qe_syntax.specs.Writable.{AreWritableFormulas};
-ghost use Rattle.qe_syntax.specs.Trees.{formulas_of};
-ghost use Rattle.qe_syntax.specs.CodeTrees.{formula_tree};
-ghost use Rattle.problem_reading.specs.FromCommandTools.{use_of, Refuses, RefusesCommand, IsQueryAnswer, AnswersQuery, LineFault};
-ghost use Rattle.problem_reading.specs.Reading.{AreNumbered, AreReadable};
-ghost use Rattle.session_meaning.specs.Meaning.{meaning};
-ghost use Rattle.session_meaning.specs.Numbered.{numbered};
-ghost use Rattle.session_meaning.specs.Reply.{IsLine};
-ghost use Rattle.problem_reading.specs.FromSessionState.{state_of, IsSessionState, KeepsState, GrowsState, HasAnswers, answered_tree};
+ghost use Rattle.reference_engine.specs.Case.{case_seen, HavePoints};
+ghost use Rattle.redlog_printer.specs.Within.{AreCasesWithin};
+ghost use Rattle.logic_meaning.specs.AnswerTexts.{cases_text as text_of_cases};
+ghost use Rattle.written_syntax.specs.Writable.{AreWritableFormulas};
+ghost use Rattle.language_meaning.specs.Trees.{formulas_of};
+ghost use Rattle.written_syntax.specs.CodeTrees.{formula_tree};
+ghost use Rattle.form_commands.specs.Replies.{use_of, Refuses, RefusesCommand, IsQueryAnswer, AnswersQuery};
+ghost use Rattle.form_commands.specs.Refusals.{LineFault};
+ghost use Rattle.form_commands.specs.Reading.{AreNumbered, AreReadable};
+ghost use Rattle.program_meaning.specs.Meaning.{meaning};
+ghost use Rattle.session_state.specs.Numbered.{numbered};
+ghost use Rattle.program_meaning.specs.Reply.{IsLine};
+ghost use Rattle.session_state.specs.Keeping.{state_of, IsSessionState};
+ghost use Rattle.session_state.specs.Growth.{KeepsState, GrowsState};
+ghost use Rattle.session_state.specs.Scripted.{HasAnswers, answered_tree};
 ghost use Rattle.point_queries.specs.CaseLists.{AreCasesIn, CasesRefuse, cases_command};
 
-use problem_reading::{
-    SessionState, Way, Workshop, forms_refusal, number_parts, print_refusal, read_parts,
-    wanted_cases,
+use form_commands::{
+    Way, Workshop, forms_refusal, number_parts, print_refusal, read_parts, wanted_cases,
 };
+use program_meaning::{Line, StatementError};
 use qe_parallel::Gate;
-use qe_syntax::Formula;
-use session_meaning::{Line, PrintedCase, StatementError, cases_text};
+use redlog_printer::cases_text;
+use reference_engine::PrintedCase;
+use session_state::SessionState;
 use std::thread::Threads;
+use written_syntax::Formula;
 
 /// Answers with the cases of the formula, their guards simplified under the assumptions. After an `Err` the names may have grown.
 pub fn answer_cases<R: Threads + Sync, G: Gate + Sync>(

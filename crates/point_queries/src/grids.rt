@@ -2,41 +2,44 @@
 
 ghost use Rattle.std.specs.Prelude.{◌≡◌, ◌⊎◌, ◌≤◌, ◌↔◌, pos, None, IfOk, IfErr, OnOk, OnErr, IsTrue, MatchOption, length, map};
 ghost use Rattle.std.specs.List.{AllByRecursion, IsDistinct, fold};
-ghost use Rattle.formula_meaning.specs.Shape.{IsQuantifierFree};
-ghost use Rattle.formula_meaning.specs.Some.{SomeOf};
-ghost use Rattle.atom_normal.specs.Atoms.{context_of};
-ghost use Rattle.qe_syntax.specs.declared.tree.Literal.TheVariants.{Fits};
-ghost use Rattle.qe_syntax.specs.Value.{same_name};
-ghost use Rattle.statement_syntax.specs.Statements.{Grid as GridOf};
-ghost use Rattle.statement_syntax.specs.Writable.{IsWritableRatio, IsWritableAxis, AreWritableAxes};
-ghost use Rattle.formula_tree.specs.Names.{place, with_name};
+ghost use Rattle.logic_meaning.specs.Shape.{IsQuantifierFree};
+ghost use Rattle.logic_meaning.specs.Some.{SomeOf};
+ghost use Rattle.normal_atoms.specs.Atoms.{context_of};
+ghost use Rattle.language_meaning.specs.declared.tree.Literal.TheVariants.{Fits};
+ghost use Rattle.language_meaning.specs.Value.{same_name};
+ghost use Rattle.language_meaning.specs.Statements.{Grid as GridOf};
+ghost use Rattle.written_syntax.specs.StatementSyntaxWritable.{IsWritableRatio, IsWritableAxis, AreWritableAxes};
+ghost use Rattle.logic_meaning.specs.Names.{place, with_name};
 ghost use Rattle.formula_resolving.specs.Numbering.{Grows};
 ghost use Rattle.formula_store.specs.Nodes.{tree, IsId};
 ghost use Rattle.formula_store.specs.Truths.{IsWholeWhereAsked};
-ghost use Rattle.point_grid.specs.Frames.{points_of, most_points};
+ghost use Rattle.program_meaning.specs.Frames.{points_of, most_points};
 ghost use Rattle.point_grid.specs.Truths.{IsTruthList};
-ghost use Rattle.session_meaning.specs.Grids.{lows as lows_of, IsFlat, IsFraction, IsAxis, AreAxes, IsGridAnswer, grid_text, MeanNoGrid};
-ghost use Rattle.session_meaning.specs.Meaning.{meaning};
-ghost use Rattle.session_meaning.specs.Numbered.{numbered};
-ghost use Rattle.session_meaning.specs.Reply.{IsLine};
-ghost use Rattle.problem_reading.specs.FromSessionState.{state_of, IsSessionState, KeepsState, GrowsState, HasAnswers, answered_tree};
-ghost use Rattle.problem_reading.specs.FromCommandTools.{use_of, RefusesCommand, AnswersQuery};
-ghost use Rattle.problem_reading.specs.Reading.{HasNumbers};
+ghost use Rattle.program_meaning.specs.Grids.{lows as lows_of, IsFlat, IsFraction, IsAxis, AreAxes, IsGridAnswer, grid_text, MeanNoGrid};
+ghost use Rattle.program_meaning.specs.Meaning.{meaning};
+ghost use Rattle.session_state.specs.Numbered.{numbered};
+ghost use Rattle.program_meaning.specs.Reply.{IsLine};
+ghost use Rattle.session_state.specs.Keeping.{state_of, IsSessionState};
+ghost use Rattle.session_state.specs.Growth.{KeepsState, GrowsState};
+ghost use Rattle.session_state.specs.Scripted.{HasAnswers, answered_tree};
+ghost use Rattle.form_commands.specs.Replies.{use_of, RefusesCommand, AnswersQuery};
+ghost use Rattle.form_commands.specs.Reading.{HasNumbers};
 ghost use Rattle.point_queries.specs.Asked.{HaveNumbers, entry_names};
 ghost use Rattle.point_queries.specs.GridSteps.{part_entry, IsDivided, IsPastRatio, IsPastAxis, AcceptsGrid, RefusesGrid, AxesStop, IsMeantGrid, NoGrid, TruthsStop};
 
 use crate::points::{check_valued, meant_point, number_command, read};
 use exact_numbers::Fraction;
+use form_commands::{Workshop, holds_quantifier};
 use formula_store::FormulaId;
 use formula_tree::Names;
-use point_grid::{Axis, Grid, GridError, grid_truth};
-use problem_reading::{SessionState, Workshop, holds_quantifier};
+use language_meaning::{GridAxis, Literal, PointEntry, Ratio};
+use point_grid::{Grid, GridError, grid_truth};
+use program_meaning::{Axis, Line, StatementError};
 use qe_parallel::Gate;
-use qe_syntax::{Formula, Literal, PointEntry};
-use session_meaning::{Line, StatementError};
-use statement_syntax::{GridAxis, Ratio};
+use session_state::SessionState;
 use std::alloc::{AllocError, Global};
 use std::thread::Threads;
+use written_syntax::Formula;
 
 /// One of the three fractions of an axis.
 #[derive(Clone, Copy, Debug, PartialEq, Eq)]

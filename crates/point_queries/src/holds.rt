@@ -2,38 +2,40 @@
 
 ghost use Rattle.std.specs.Prelude.{◌≡◌, ◌≤◌, ◌↔◌, None, IfOk, IfErr, OnOk, OnErr, IsTrue};
 ghost use Rattle.std.specs.List.{IsDistinct};
-ghost use Rattle.formula_meaning.specs.Every.{Every};
-ghost use Rattle.formula_meaning.specs.Point.{Of};
-ghost use Rattle.formula_meaning.specs.Shape.{IsQuantifierFree};
-ghost use Rattle.formula_meaning.specs.Tree.{TrueAt};
-ghost use Rattle.atom_normal.specs.Atoms.{context_of};
-ghost use Rattle.atom_normal.specs.NormalForm.{IsNormal};
-ghost use Rattle.qe_syntax.specs.Point.{IsPointOf};
-ghost use Rattle.qe_syntax.specs.PointNumbers.{point_of};
-ghost use Rattle.qe_syntax.specs.Writable.{AreWritableEntries};
-ghost use Rattle.statement_syntax.specs.Statements.{Holds};
-ghost use Rattle.qe_syntax.specs.Value.{same_name};
-ghost use Rattle.resolved_formulas.specs.Resolving.{at_names};
+ghost use Rattle.logic_meaning.specs.Every.{Every};
+ghost use Rattle.logic_meaning.specs.Point.{Of};
+ghost use Rattle.logic_meaning.specs.Shape.{IsQuantifierFree};
+ghost use Rattle.logic_meaning.specs.Tree.{TrueAt};
+ghost use Rattle.normal_atoms.specs.Atoms.{context_of};
+ghost use Rattle.logic_meaning.specs.NormalForm.{IsNormal};
+ghost use Rattle.language_meaning.specs.Point.{IsPointOf};
+ghost use Rattle.written_syntax.specs.PointNumbers.{point_of};
+ghost use Rattle.written_syntax.specs.Writable.{AreWritableEntries};
+ghost use Rattle.language_meaning.specs.Statements.{Holds};
+ghost use Rattle.language_meaning.specs.Value.{same_name};
+ghost use Rattle.language_meaning.specs.Resolving.{at_names};
 ghost use Rattle.formula_store.specs.Nodes.{tree, IsId};
 ghost use Rattle.formula_store.specs.Truths.{Tells, IsWholeWhereAsked};
-ghost use Rattle.problem_reading.specs.FromCommandTools.{use_of, RefusesCommand, AnswersQuery};
-ghost use Rattle.problem_reading.specs.Reading.{HasNumbers};
+ghost use Rattle.form_commands.specs.Replies.{use_of, RefusesCommand, AnswersQuery};
+ghost use Rattle.form_commands.specs.Reading.{HasNumbers};
 ghost use Rattle.point_queries.specs.Asked.{HaveNumbers, AcceptsBoth};
-ghost use Rattle.session_meaning.specs.Meaning.{meaning};
-ghost use Rattle.session_meaning.specs.Numbered.{numbered};
-ghost use Rattle.problem_reading.specs.FromSessionState.{state_of, IsSessionState, KeepsState, GrowsState, HasAnswers, answered_tree};
-ghost use Rattle.session_meaning.specs.Points.{IsTruth};
+ghost use Rattle.program_meaning.specs.Meaning.{meaning};
+ghost use Rattle.session_state.specs.Numbered.{numbered};
+ghost use Rattle.session_state.specs.Keeping.{state_of, IsSessionState};
+ghost use Rattle.session_state.specs.Growth.{KeepsState, GrowsState};
+ghost use Rattle.session_state.specs.Scripted.{HasAnswers, answered_tree};
+ghost use Rattle.program_meaning.specs.Points.{IsTruth};
 ghost use Rattle.point_queries.specs.Truths.{RefusesTruth, ValueStop, EliminationStop};
 
 use crate::points::{asked, number_command, values_of};
+use form_commands::{Workshop, holds_quantifier, measured_refusal, printed_line, text_of_truth};
 use formula_store::{EvalStop, FormulaId};
-use problem_reading::{
-    SessionState, Workshop, holds_quantifier, measured_refusal, printed_line, text_of_truth,
-};
+use language_meaning::PointEntry;
+use program_meaning::{Line, StatementError};
 use qe_parallel::Gate;
-use qe_syntax::{Formula, Point, PointEntry};
-use session_meaning::{Line, StatementError};
+use session_state::SessionState;
 use std::thread::Threads;
+use written_syntax::{Formula, Point};
 
 /// Answers whether the formula is true at the point. After an `Err` the names may have grown.
 pub fn answer_holds<R: Threads + Sync, G: Gate + Sync>(

@@ -2,31 +2,36 @@
 
 ghost use Rattle.std.specs.Prelude.{◌≡◌, ◌↔◌, ◌++◌, ℕ, IfOk, IfErr, OnOk, IsTrue};
 ghost use Rattle.std.specs.List.{IsDistinct, fold};
-ghost use Rattle.formula_meaning.specs.Some.{SomeOf};
-ghost use Rattle.atom_normal.specs.Atoms.{context_of};
+ghost use Rattle.logic_meaning.specs.Some.{SomeOf};
+ghost use Rattle.normal_atoms.specs.Atoms.{context_of};
 ghost use Rattle.linear_forms.specs.Values.{number_at};
-ghost use Rattle.qe_syntax.specs.Point.{IsPointOf};
-ghost use Rattle.qe_syntax.specs.PointNumbers.{point_of};
-ghost use Rattle.qe_syntax.specs.Writable.{AreWritableEntries};
-ghost use Rattle.qe_syntax.specs.Value.{same_name};
-ghost use Rattle.formula_tree.specs.Names.{with_name};
-ghost use Rattle.resolved_formulas.specs.Resolving.{formula_variables, at_names};
-ghost use Rattle.resolved_formulas.specs.Causes.{IsBound};
+ghost use Rattle.language_meaning.specs.Point.{IsPointOf};
+ghost use Rattle.written_syntax.specs.PointNumbers.{point_of};
+ghost use Rattle.written_syntax.specs.Writable.{AreWritableEntries};
+ghost use Rattle.language_meaning.specs.Value.{same_name};
+ghost use Rattle.logic_meaning.specs.Names.{with_name};
+ghost use Rattle.language_meaning.specs.Resolving.{formula_variables, at_names};
+ghost use Rattle.language_meaning.specs.Causes.{IsBound};
 ghost use Rattle.formula_resolving.specs.Numbering.{Grows};
-ghost use Rattle.session_meaning.specs.State.{known};
-ghost use Rattle.problem_reading.specs.Reading.{HasNumbers};
+ghost use Rattle.program_meaning.specs.State.{known};
+ghost use Rattle.form_commands.specs.Reading.{HasNumbers};
 ghost use Rattle.point_queries.specs.Asked.{HaveNumbers, RefusesAsking, RefusesBoth, entry_names, stop_of, is_whole_theory, IsReadAs, IsMeantPoint, PointStop, IsValued, ValuedStop, IsAsked};
-ghost use Rattle.problem_reading.specs.FromSessionState.{state_of, IsSessionState, KeepsState, HasIds, HasAnswers, answered_tree};
+ghost use Rattle.session_state.specs.Keeping.{state_of, IsSessionState, HasIds};
+ghost use Rattle.session_state.specs.Growth.{KeepsState};
+ghost use Rattle.session_state.specs.Scripted.{HasAnswers, answered_tree};
 
-use atom_normal::Context;
+use form_commands::resolved;
 use formula_resolving::{bound_formula, number_formula};
 use formula_store::FormulaId;
 use formula_tree::{Bindings, Names};
+use free_names::is_valued;
+use language_meaning::PointEntry;
 use linear_forms::Values;
-use problem_reading::{SessionState, resolved};
-use qe_syntax::{Formula, Point, PointEntry, PointFault};
-use session_meaning::{StatementError, is_valued};
+use normal_atoms::Context;
+use program_meaning::StatementError;
+use session_state::SessionState;
 use std::alloc::Global;
+use written_syntax::{Formula, Point, PointFault};
 
 /// Numbers the variables of the formula and of the point, in the order of the text. After an `Err` the names may have grown.
 pub fn number_command(
@@ -138,7 +143,7 @@ fn some_bound(state: &SessionState, entries: &[PointEntry]) -> bool
 }
 
 /// The point that the entries mean, or `None` where one of its numbers passes the limit.
-#[tactic(auto, using(qe_syntax::proofs::WritableLemmas::writable))]
+#[tactic(auto, using(written_syntax::proofs::WritableLemmas::writable))]
 pub fn meant_point(
     alloc: Global,
     context: Context,

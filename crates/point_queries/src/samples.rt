@@ -2,40 +2,44 @@
 
 ghost use Rattle.std.specs.Prelude.{◌≡◌, ◌≤◌, None, IfOk, IfErr, OnOk, OnErr, length};
 ghost use Rattle.std.specs.List.{IsDistinct};
-ghost use Rattle.formula_meaning.specs.Every.{Every};
-ghost use Rattle.formula_meaning.specs.Point.{Of};
-ghost use Rattle.atom_normal.specs.Atoms.{context_of};
-ghost use Rattle.atom_normal.specs.NormalForm.{IsNormal};
-ghost use Rattle.qe_syntax.specs.Point.{IsPointOf};
-ghost use Rattle.qe_syntax.specs.PointNumbers.{point_of};
-ghost use Rattle.qe_syntax.specs.Writable.{AreWritableEntries};
-ghost use Rattle.statement_syntax.specs.Statements.{Sample};
-ghost use Rattle.qe_syntax.specs.Value.{same_name};
-ghost use Rattle.resolved_formulas.specs.Resolving.{at_names};
+ghost use Rattle.logic_meaning.specs.Every.{Every};
+ghost use Rattle.logic_meaning.specs.Point.{Of};
+ghost use Rattle.normal_atoms.specs.Atoms.{context_of};
+ghost use Rattle.logic_meaning.specs.NormalForm.{IsNormal};
+ghost use Rattle.language_meaning.specs.Point.{IsPointOf};
+ghost use Rattle.written_syntax.specs.PointNumbers.{point_of};
+ghost use Rattle.written_syntax.specs.Writable.{AreWritableEntries};
+ghost use Rattle.language_meaning.specs.Statements.{Sample};
+ghost use Rattle.language_meaning.specs.Value.{same_name};
+ghost use Rattle.language_meaning.specs.Resolving.{at_names};
 ghost use Rattle.formula_store.specs.Nodes.{tree, IsId};
 ghost use Rattle.sample_reference.specs.TrueSample.{IsTrueSample};
 ghost use Rattle.sample_reference.specs.Seen.{sample_of};
-ghost use Rattle.redlog_printer.specs.Writing.{text_limit};
-ghost use Rattle.problem_reading.specs.FromCommandTools.{use_of, RefusesCommand, AnswersQuery};
-ghost use Rattle.problem_reading.specs.Reading.{HasNumbers};
+ghost use Rattle.logic_meaning.specs.Writing.{text_limit};
+ghost use Rattle.form_commands.specs.Replies.{use_of, RefusesCommand, AnswersQuery};
+ghost use Rattle.form_commands.specs.Reading.{HasNumbers};
 ghost use Rattle.point_queries.specs.Asked.{HaveNumbers};
-ghost use Rattle.session_meaning.specs.Meaning.{meaning};
-ghost use Rattle.session_meaning.specs.Numbered.{numbered};
-ghost use Rattle.session_meaning.specs.Reply.{IsLine};
-ghost use Rattle.problem_reading.specs.FromSessionState.{state_of, IsSessionState, KeepsState, GrowsState, HasAnswers, answered_tree};
-ghost use Rattle.session_meaning.specs.Samples.{sample_text};
+ghost use Rattle.program_meaning.specs.Meaning.{meaning};
+ghost use Rattle.session_state.specs.Numbered.{numbered};
+ghost use Rattle.program_meaning.specs.Reply.{IsLine};
+ghost use Rattle.session_state.specs.Keeping.{state_of, IsSessionState};
+ghost use Rattle.session_state.specs.Growth.{KeepsState, GrowsState};
+ghost use Rattle.session_state.specs.Scripted.{HasAnswers, answered_tree};
+ghost use Rattle.program_meaning.specs.Samples.{sample_text};
 ghost use Rattle.point_queries.specs.SampleSteps.{RefusesSample, SampleStop, IsSampleWithin, IsWantedSample};
 
 use crate::points::{asked, number_command, values_of};
 use exact_numbers::Fraction;
+use form_commands::{Workshop, measured_refusal, printed_line};
 use formula_store::FormulaId;
-use linear_forms::VarId;
-use problem_reading::{SessionState, Workshop, measured_refusal, printed_line};
+use language_meaning::PointEntry;
+use logic_meaning::VarId;
+use program_meaning::{Line, StatementError};
 use qe_parallel::Gate;
-use qe_syntax::{Formula, Point, PointEntry};
-use redlog_printer::PrintError;
-use session_meaning::{Line, StatementError, point_text};
+use redlog_printer::{PrintError, point_text};
+use session_state::SessionState;
 use std::thread::Threads;
+use written_syntax::{Formula, Point};
 
 /// Answers with values for the names of the leading block, or with `none`. After an `Err` the names may have grown.
 pub fn answer_sample<R: Threads + Sync, G: Gate + Sync>(

@@ -5,18 +5,18 @@ use Rattle.std.specs.Prelude.{slice_get}
 use Rattle.std.proofs.lemmas.Int.{ints}
 use Rattle.std.proofs.lemmas.Bool.{cases_eq, ne_eqb, eq-eqb, cond-true, cond-false}
 use Rattle.exact_numbers.proofs.Order.{by_zero}
-use Rattle.formula_meaning.specs.Context.{Context, Fields, Integers}
-use Rattle.formula_meaning.specs.Form.{Form, Term, multiple}
-use Rattle.formula_meaning.specs.Sorted.{AllAbove, IsRising, AllNonzero, gathered}
-use Rattle.formula_meaning.specs.Some.{Among}
-use Rattle.formula_meaning.specs.Atom.{Atom, Compare, Congruent, form_of}
-use Rattle.formula_meaning.specs.Formula.{One}
-use Rattle.formula_meaning.specs.Tree.{Tree}
+use Rattle.logic_meaning.specs.Context.{Context, Fields, Integers}
+use Rattle.logic_meaning.specs.Form.{Form, Term, multiple}
+use Rattle.logic_meaning.specs.Sorted.{AllAbove, IsRising, AllNonzero, gathered}
+use Rattle.logic_meaning.specs.Some.{Among}
+use Rattle.logic_meaning.specs.Atom.{Atom, Compare, Congruent, form_of}
+use Rattle.logic_meaning.specs.Formula.{One}
+use Rattle.logic_meaning.specs.Tree.{Tree}
 use Rattle.exact_numbers.specs.Limit.{InLimit, PastLimit}
 use Rattle.linear_forms.specs.Combinations.{IsLinear}
-use Rattle.atom_normal.specs.NormalForm.{normal_atom, ConstantPasses, compared_in_fields, compared_over_integers, congruent}
-use Rattle.prenex_theory.specs.Renaming.{terms_named, atom_named}
-use Rattle.prenex_theory.proofs.NamedAtoms.{names_of, image_among, named_multiple}
+use Rattle.logic_meaning.specs.NormalForm.{normal_atom, ConstantPasses, compared_in_fields, compared_over_integers, congruent}
+use Rattle.logic_meaning.specs.Renaming.{terms_named, atom_named}
+use Rattle.shape_theory.proofs.NamedAtoms.{names_of, image_among, named_multiple}
 use Rattle.written_atoms.specs.Entries.{coefficient_at}
 use Rattle.written_atoms.proofs.EntryTerms.{at_name, multiple_take, none_before}
 

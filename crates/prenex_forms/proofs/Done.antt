@@ -1,15 +1,15 @@
 -- Atoms may be brought to normal form before the quantifiers go in front.
 use Rattle.std.proofs.Common.{◌≡◌, suc, max, [], ◌∷◌, refl, sym, ap, ap₂, ◌∙◌, if◌then◌else◌}
 use Rattle.std.specs.Prelude.{nat_lt}
-use Rattle.formula_meaning.specs.Formula.{Formula, Formulas, Yes, No, One, Not, And, Or, Impl, Repl, Equiv, Ex, All, none, also}
-use Rattle.formula_meaning.specs.Replaced.{replaced, all_replaced}
-use Rattle.formula_meaning.specs.Shape.{blocks_from, most_blocks}
-use Rattle.formula_meaning.specs.Plain.{IsAtomic, IsNegationNormal, AreNegationNormal}
-use Rattle.formula_meaning.specs.declared.quantifier.Quantifier.{Quantifier}
-use Rattle.formula_meaning.specs.declared.quantifier.Quantifier.TheVariants.{Exists, ForAll}
-use Rattle.prenex_theory.specs.Blocks.{in_first, joined_blocks, blocks, blocks_of, matrix, matrices}
-use Rattle.prenex_theory.specs.Front.{prefixed, first_kind, in_front}
-use Rattle.prenex_theory.proofs.Shapes.{replaced_prefixed}
+use Rattle.logic_meaning.specs.Formula.{Formula, Formulas, Yes, No, One, Not, And, Or, Impl, Repl, Equiv, Ex, All, none, also}
+use Rattle.logic_meaning.specs.Replaced.{replaced, all_replaced}
+use Rattle.logic_meaning.specs.Shape.{blocks_from, most_blocks}
+use Rattle.logic_meaning.specs.Plain.{IsAtomic, IsNegationNormal, AreNegationNormal}
+use Rattle.logic_meaning.specs.declared.quantifier.Quantifier.{Quantifier}
+use Rattle.logic_meaning.specs.declared.quantifier.Quantifier.TheVariants.{Exists, ForAll}
+use Rattle.logic_meaning.specs.Blocks.{in_first, joined_blocks, blocks, blocks_of, matrix, matrices}
+use Rattle.logic_meaning.specs.Front.{prefixed, first_kind, in_front}
+use Rattle.shape_theory.proofs.Shapes.{replaced_prefixed}
 
 module _ {A N : Type 0} (by : A → Formula A N) (atomic : (a : A) → IsAtomic (by a)) where
   atomic_blocks : (f : Formula A N) → IsAtomic f → (q : Quantifier) → blocks f q ≡ []

@@ -1,45 +1,41 @@
 -- The prenex form of a formula by its negation normal form and what a chooser chooses.
 use Rattle.std.proofs.Common.{◌≡◌, ◌<◌, ◌+◌, ℕ, zero, suc, List, [], ◌∷◌, ◌++◌, length, inl, inr, refl, sym, ap, ap₂, ◌∙◌, subst, ◌↔◌, arith, nat_eq}
 use Rattle.std.proofs.Math.Path.{fun_ext}
-use Rattle.formula_meaning.specs.Context.{Context}
-use Rattle.formula_meaning.specs.Formula.{Formula, Formulas, Yes, No, One, Not, And, Or, Impl, Repl, Equiv, Ex, All, none, also}
-use Rattle.formula_meaning.specs.Form.{Term, coefficient}
-use Rattle.formula_meaning.specs.Atom.{Atom, Mentions, form_of}
-use Rattle.formula_meaning.specs.Every.{Every, EveryBound, EveryBoundOf}
-use Rattle.formula_meaning.specs.NegationNormal.{normal_form, normal_form_of_not, normal_forms, normal_forms_of_not}
-use Rattle.formula_meaning.specs.Replaced.{replaced}
-use Rattle.formula_meaning.specs.Shape.{is_in}
-use Rattle.formula_meaning.specs.Some.{Among}
-use Rattle.formula_meaning.specs.Tree.{Tree, IsFree, tree_names}
-use Rattle.formula_meaning.proofs.EachAtom.{every_map, every_both}
-use Rattle.formula_meaning.proofs.NormalShape.{normal_form_every, normal_form_shape}
-use Rattle.atom_normal.specs.NormalForm.{normal_atom, negated_normal, IsNormal, ConstantPasses}
-use Rattle.resolved_formulas.specs.Somewhere.{SomeAtom}
-use Rattle.atom_normal.proofs.NormalLaws.{normal_atomic, negated_normal_is, negated_names}
-use Rattle.formula_meaning.specs.Within.{IsTreeWithin, IsAtomWithin, AreTermsWithin}
-use Rattle.formula_meaning.specs.Shape.{IsPrenex, fewest_blocks}
-use Rattle.formula_meaning.specs.Equivalence.{Equivalent, IsNegation}
-use Rattle.formula_meaning.specs.TheoryAtoms.{AtomIn}
-use Rattle.formula_meaning.proofs.NormalShape.{normal_form_brings, normal_form_keeps}
-use Rattle.formula_meaning.proofs.Iff.{both_ways}
-use Rattle.formula_meaning.proofs.Equivalence.{equivalent_then}
-use Rattle.prenex_theory.proofs.FromEliminationTheory.{negation_normal_keeps_truth, decided}
-use Rattle.atom_normal.proofs.NormalLaws.{negated_truth, normal_in, normal_sorted}
-use Rattle.prenex_theory.specs.Blocks.{block_count}
-use Rattle.prenex_theory.specs.NewNames.{AddsNewNames}
-use Rattle.prenex_theory.proofs.Whole.{is_prenex, has_fewest_blocks, keeps_truth, keeps_names, is_normal}
+use Rattle.logic_meaning.specs.Context.{Context}
+use Rattle.logic_meaning.specs.Formula.{Formula, Formulas, Yes, No, One, Not, And, Or, Impl, Repl, Equiv, Ex, All, none, also}
+use Rattle.logic_meaning.specs.Form.{Term, coefficient}
+use Rattle.logic_meaning.specs.Atom.{Atom, Mentions, form_of}
+use Rattle.logic_meaning.specs.Every.{Every, EveryBound, EveryBoundOf}
+use Rattle.logic_meaning.specs.NegationNormal.{normal_form, normal_form_of_not, normal_forms, normal_forms_of_not}
+use Rattle.logic_meaning.specs.Replaced.{replaced}
+use Rattle.logic_meaning.specs.Shape.{is_in, IsPrenex, fewest_blocks}
+use Rattle.logic_meaning.specs.Some.{Among}
+use Rattle.logic_meaning.specs.Tree.{Tree, IsFree, tree_names}
+use Rattle.formula_laws.proofs.EachAtom.{every_map, every_both}
+use Rattle.formula_laws.proofs.NormalShape.{normal_form_every, normal_form_shape, normal_form_brings, normal_form_keeps}
+use Rattle.logic_meaning.specs.NormalForm.{normal_atom, negated_normal, IsNormal, ConstantPasses}
+use Rattle.language_meaning.specs.Somewhere.{SomeAtom}
+use Rattle.normal_atoms.proofs.NormalLaws.{normal_atomic, negated_normal_is, negated_names, negated_truth, normal_in, normal_sorted}
+use Rattle.formula_laws.specs.Within.{IsTreeWithin, IsAtomWithin, AreTermsWithin}
+use Rattle.formula_laws.specs.Equivalence.{Equivalent, IsNegation}
+use Rattle.formula_laws.specs.TheoryAtoms.{AtomIn}
+use Rattle.formula_laws.proofs.Iff.{both_ways}
+use Rattle.formula_laws.proofs.Equivalence.{equivalent_then}
+use Rattle.elimination_theory.proofs.NegationNormal.{negation_normal_keeps_truth}
+use Rattle.elimination_theory.proofs.BothTheories.{decided}
+use Rattle.logic_meaning.specs.Blocks.{block_count}
+use Rattle.logic_meaning.specs.NewNames.{AddsNewNames}
+use Rattle.shape_theory.proofs.Whole.{is_prenex, has_fewest_blocks, keeps_truth, keeps_names, is_normal, links, chosen_shape}
 use Rattle.prenex_forms.proofs.Starts.{length_push}
-use Rattle.prenex_theory.specs.Front.{in_front}
-use Rattle.prenex_theory.specs.Renaming.{Chosen, nothing_chosen, after, renamed, with_chosen_names, new_count}
-use Rattle.prenex_theory.specs.Links.{Links}
-use Rattle.prenex_theory.specs.Prenex.{prenex_of}
-use Rattle.prenex_theory.specs.Theorems.{HasNamesBelow, HasPrenexForm}
-use Rattle.prenex_theory.proofs.NamedAtoms.{names_of}
-use Rattle.prenex_theory.proofs.AtomNames.{multiple_among}
-use Rattle.prenex_theory.proofs.NamedAtoms.{among_mentions}
-use Rattle.prenex_theory.proofs.Whole.{links, chosen_shape}
+use Rattle.logic_meaning.specs.Front.{in_front}
+use Rattle.logic_meaning.specs.Renaming.{Chosen, nothing_chosen, after, renamed, with_chosen_names, new_count}
+use Rattle.shape_theory.specs.Links.{Links}
+use Rattle.logic_meaning.specs.Prenex.{prenex_of}
+use Rattle.shape_theory.specs.Theorems.{HasNamesBelow, HasPrenexForm}
+use Rattle.shape_theory.proofs.NamedAtoms.{names_of, among_mentions}
+use Rattle.shape_theory.proofs.AtomNames.{multiple_among}
 use Rattle.prenex_forms.specs.declared.chooser.Chooser.{Chooser}
-use Rattle.prenex_forms.specs.Forms.{OverflowsInRenaming}
+use Rattle.language_meaning.specs.Forms.{OverflowsInRenaming}
 use Rattle.prenex_forms.specs.NegationForm.{negation_form}
 use Rattle.prenex_forms.specs.Named.{now_of}
 use Rattle.prenex_forms.specs.Chosen.{flag, chosen_of, named_by, CanRename, IsRenamed, Overflows}

@@ -3,12 +3,12 @@ use Rattle.std.proofs.Common.{◌≡◌, ◌<◌, ◌≤◌, ◌+◌, ℕ, zero,
 use Rattle.std.specs.Prelude.{option_map, position, is_none}
 use Rattle.std.specs.List.{list_any}
 use Rattle.std.proofs.lemmas.Bool.{cases_eq, ltb-true, ltb-false, lt-ltb, le-ltb}
-use Rattle.formula_meaning.specs.Some.{Among}
-use Rattle.linear_forms.specs.declared.form.VarId.{VarId}
-use Rattle.qe_syntax.specs.Value.{same_name}
-use Rattle.formula_tree.specs.Names.{place, with_name}
+use Rattle.logic_meaning.specs.Some.{Among}
+use Rattle.logic_meaning.specs.declared.form.VarId.{VarId}
+use Rattle.language_meaning.specs.Value.{same_name}
+use Rattle.logic_meaning.specs.Names.{place, with_name}
 use Rattle.resolved_formulas.proofs.PlaceLaws.{same_is, same_itself}
-use Rattle.prenex_theory.specs.NewNames.{new_text, IsFirstNew, AddsNewNames}
+use Rattle.logic_meaning.specs.NewNames.{new_text, IsFirstNew, AddsNewNames}
 
 place_any : (x : List ℕ) (names : List (List ℕ)) → nat_lt (place names x) (length names) ≡ list_any (same_name x) names
 place_any x [] = refl

@@ -2,15 +2,15 @@
 use Rattle.std.proofs.Common.{◌≡◌, ◌<◌, ℕ, zero, suc, ◌+◌, ◌%◌, Bool, true, false, List, [], ◌∷◌, ◌++◌, length, drop, refl, sym, ap, ap₂, ◌∙◌, arith, get_or, nat_eq, if◌then◌else◌}
 use Rattle.std.proofs.Math.Seq.{drop-cons}
 use Rattle.std.proofs.lemmas.Bool.{ne_eqb, eq-eqb, eqb-true}
-use Rattle.formula_meaning.specs.Formula.{Yes, No, One, Not, And, Or, Impl, Repl, Equiv, Ex, All, none, also}
-use Rattle.formula_meaning.specs.declared.quantifier.Quantifier.{Quantifier}
-use Rattle.formula_meaning.specs.declared.quantifier.Quantifier.TheVariants.{Exists, ForAll}
-use Rattle.formula_meaning.specs.Tree.{Tree, Trees}
-use Rattle.linear_forms.specs.declared.form.VarId.{VarId}
+use Rattle.logic_meaning.specs.Formula.{Yes, No, One, Not, And, Or, Impl, Repl, Equiv, Ex, All, none, also}
+use Rattle.logic_meaning.specs.declared.quantifier.Quantifier.{Quantifier}
+use Rattle.logic_meaning.specs.declared.quantifier.Quantifier.TheVariants.{Exists, ForAll}
+use Rattle.logic_meaning.specs.Tree.{Tree, Trees}
+use Rattle.logic_meaning.specs.declared.form.VarId.{VarId}
 use Rattle.formula_tree.specs.Shapes.{tree_over}
-use Rattle.prenex_theory.specs.Front.{quantified}
-use Rattle.shared_elimination.specs.Shared.{quantified_shape}
-use Rattle.prenex_theory.specs.Blocks.{other_kind, in_first, joined_blocks, blocks, blocks_of}
+use Rattle.logic_meaning.specs.Front.{quantified}
+use Rattle.reference_engine.specs.Shared.{quantified_shape}
+use Rattle.logic_meaning.specs.Blocks.{other_kind, in_first, joined_blocks, blocks, blocks_of}
 use Rattle.prenex_forms.specs.declared.front.Place.{Place}
 use Rattle.prenex_forms.specs.Places.{place_at, placed, placed_in, level_names, levels_of, kind_at}
 

@@ -6,8 +6,8 @@ use Rattle.std.specs.List.{AllByRecursion, list_all}
 use Rattle.std.proofs.lemmas.Bool.{le-leb}
 use Rattle.std.proofs.lemmas.Fmt.{decimal_by_steps, length-decimal-le}
 use Rattle.std.proofs.lemmas.List.Folds.{list_all-append}
-use Rattle.qe_syntax.specs.Names.{IsVariable, is_digit, is_letter, is_name_part, is_word}
-use Rattle.prenex_theory.specs.NewNames.{new_text}
+use Rattle.language_meaning.specs.Names.{IsVariable, is_digit, is_letter, is_name_part, is_word}
+use Rattle.logic_meaning.specs.NewNames.{new_text}
 
 or_of_true : (a b c : Bool) → b ≡ true → ((a || b) || c) ≡ true
 or_of_true true true c e = refl

@@ -5,28 +5,28 @@ use Rattle.std.proofs.Math.Path.{fun_ext}
 use Rattle.std.proofs.lemmas.Bool.{eq-eqb, ne_eqb, cases_eq}
 use Rattle.std.proofs.lemmas.List.{set-set, set-get_or, get_or-set_same, get_or-set_other}
 use Rattle.std.proofs.lemmas.Option.{unwrap_or-slice_get}
-use Rattle.formula_meaning.specs.Shape.{quantified}
-use Rattle.formula_meaning.specs.declared.quantifier.Quantifier.TheVariants.{Exists, ForAll}
-use Rattle.formula_meaning.specs.declared.junction.Junction.TheVariants.{Conjunction, Disjunction}
-use Rattle.formula_meaning.specs.Context.{Context}
-use Rattle.formula_meaning.specs.Formula.{One, And, Or, Ex, All, none, also}
-use Rattle.formula_meaning.specs.Fold.{joined, append}
+use Rattle.logic_meaning.specs.Shape.{quantified}
+use Rattle.logic_meaning.specs.declared.quantifier.Quantifier.TheVariants.{Exists, ForAll}
+use Rattle.logic_meaning.specs.declared.junction.Junction.TheVariants.{Conjunction, Disjunction}
+use Rattle.logic_meaning.specs.Context.{Context}
+use Rattle.logic_meaning.specs.Formula.{One, And, Or, Ex, All, none, also}
+use Rattle.logic_meaning.specs.Fold.{joined, append}
 use Rattle.nnf_trees.specs.declared.nnf.Nnf.{Nnf}
 use Rattle.nnf_trees.proofs.Pieces.{Formulas_of}
 use Rattle.prenex_forms.proofs.Lists.{one_pushed, all_pushed}
-use Rattle.formula_meaning.specs.Atom.{Atom, Mentions}
-use Rattle.formula_meaning.specs.Every.{Every, EveryBound, EveryBoundOf, FreeInSome}
-use Rattle.formula_meaning.specs.Replaced.{replaced, all_replaced}
-use Rattle.formula_meaning.specs.Tree.{Tree, Trees, IsFree}
-use Rattle.resolved_formulas.specs.Somewhere.{SomeAtom, SomewhereIn}
-use Rattle.atom_normal.specs.NormalForm.{normal_atom, IsNormal, ConstantPasses, constant_tree}
-use Rattle.formula_meaning.specs.declared.junction.Junction.{Junction}
-use Rattle.formula_meaning.specs.declared.quantifier.Quantifier.{Quantifier}
+use Rattle.logic_meaning.specs.Atom.{Atom, Mentions}
+use Rattle.logic_meaning.specs.Every.{Every, EveryBound, EveryBoundOf, FreeInSome}
+use Rattle.logic_meaning.specs.Replaced.{replaced, all_replaced}
+use Rattle.logic_meaning.specs.Tree.{Tree, Trees, IsFree}
+use Rattle.language_meaning.specs.Somewhere.{SomeAtom, SomewhereIn}
+use Rattle.logic_meaning.specs.NormalForm.{normal_atom, IsNormal, ConstantPasses, constant_tree}
+use Rattle.logic_meaning.specs.declared.junction.Junction.{Junction}
+use Rattle.logic_meaning.specs.declared.quantifier.Quantifier.{Quantifier}
 use Rattle.nnf_trees.specs.Nnfs.{nnf_of}
-use Rattle.prenex_theory.specs.Renaming.{Chosen, chosen_name, chosen, after, after_all, renamed, all_renamed, with_now, atom_named}
-use Rattle.prenex_theory.specs.Links.{Links}
-use Rattle.prenex_theory.proofs.Renamed.{links_under}
-use Rattle.prenex_theory.proofs.RenamedTruth.{first_links, other_links}
+use Rattle.logic_meaning.specs.Renaming.{Chosen, chosen_name, chosen, after, after_all, renamed, all_renamed, with_now, atom_named}
+use Rattle.shape_theory.specs.Links.{Links}
+use Rattle.shape_theory.proofs.Renamed.{links_under}
+use Rattle.shape_theory.proofs.RenamedTruth.{first_links, other_links}
 use Rattle.prenex_forms.specs.declared.chooser.Chooser.{Chooser}
 use Rattle.prenex_forms.specs.Named.{now_of}
 use Rattle.prenex_forms.specs.Chosen.{chosen_of, named_by, all_named_by, CanRename, CanRenameAll, IsRenamed, AreRenamed, Overflows, SomeOverflows}

@@ -3,11 +3,11 @@ use Rattle.std.proofs.Common.{◌≡◌, ◌<◌, ◌≤◌, ◌↔◌, ◌⊎�
 use Rattle.std.specs.Prelude.{slice_get, unwrap_or}
 use Rattle.std.specs.List.{AllByRecursion}
 use Rattle.std.proofs.lemmas.Bool.{cases_eq, cases_lt, eqb-true}
-use Rattle.formula_meaning.specs.Shape.{is_in}
-use Rattle.formula_meaning.specs.Some.{Among}
-use Rattle.formula_meaning.specs.Tree.{Tree, IsFree, tree_names}
-use Rattle.formula_meaning.proofs.TreeNames.{names_listed}
-use Rattle.prenex_theory.proofs.Whole.{among_is_in}
+use Rattle.logic_meaning.specs.Shape.{is_in}
+use Rattle.logic_meaning.specs.Some.{Among}
+use Rattle.logic_meaning.specs.Tree.{Tree, IsFree, tree_names}
+use Rattle.formula_laws.proofs.TreeNames.{names_listed}
+use Rattle.shape_theory.proofs.Whole.{among_is_in}
 use Rattle.prenex_forms.specs.Named.{now_of}
 use Rattle.prenex_forms.specs.Chosen.{flag}
 

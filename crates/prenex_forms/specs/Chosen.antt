@@ -1,14 +1,14 @@
 -- What a chooser has chosen, and a formula with the names that it chooses.
 use Rattle.std.specs.Prelude.{◌≡◌, ℕ, ◌<◌, Bool, false, List, slice_get, unwrap_or}
-use Rattle.formula_meaning.specs.Context.{Context}
-use Rattle.formula_meaning.specs.Atom.{Mentions}
-use Rattle.formula_meaning.specs.Every.{Every, EveryOf, EveryBound, EveryBoundOf, FreeInSome}
-use Rattle.formula_meaning.specs.Replaced.{replaced, all_replaced}
-use Rattle.formula_meaning.specs.Tree.{Tree, Trees, IsFree}
-use Rattle.resolved_formulas.specs.Somewhere.{SomeAtom, SomewhereIn}
-use Rattle.atom_normal.specs.NormalForm.{normal_atom, IsNormal, ConstantPasses}
-use Rattle.prenex_theory.specs.Renaming.{Chosen, after, after_all, renamed, all_renamed}
-use Rattle.prenex_theory.specs.Links.{Links}
+use Rattle.logic_meaning.specs.Context.{Context}
+use Rattle.logic_meaning.specs.Atom.{Mentions}
+use Rattle.logic_meaning.specs.Every.{Every, EveryOf, EveryBound, EveryBoundOf, FreeInSome}
+use Rattle.logic_meaning.specs.Replaced.{replaced, all_replaced}
+use Rattle.logic_meaning.specs.Tree.{Tree, Trees, IsFree}
+use Rattle.language_meaning.specs.Somewhere.{SomeAtom, SomewhereIn}
+use Rattle.logic_meaning.specs.NormalForm.{normal_atom, IsNormal, ConstantPasses}
+use Rattle.logic_meaning.specs.Renaming.{Chosen, after, after_all, renamed, all_renamed}
+use Rattle.shape_theory.specs.Links.{Links}
 use Rattle.prenex_forms.specs.declared.chooser.Chooser.{Chooser}
 use Rattle.prenex_forms.specs.Named.{now_of}
 

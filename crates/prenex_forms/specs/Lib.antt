@@ -1,7 +1,5 @@
-pub mod Forms
 pub mod NegationForm
 pub mod Places
 pub mod Named
 pub mod Chosen
 pub mod Marks
-pub mod FromPrenexTheory

@@ -1,6 +1,6 @@
 -- Names of atoms and what they have become.
 use Rattle.std.specs.Prelude.{◌≡◌, ℕ, pos, List, slice_get, unwrap_or}
-use Rattle.formula_meaning.specs.Form.{Form, coefficient}
+use Rattle.logic_meaning.specs.Form.{Form, coefficient}
 
 -- what the list has at the name's number, or the name itself past its end
 abbrev pub now_of : List ℕ → ℕ → ℕ

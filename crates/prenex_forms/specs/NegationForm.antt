@@ -1,7 +1,7 @@
 -- The negation normal form of a resolved formula.
-use Rattle.formula_meaning.specs.NegationNormal.{normal_form}
-use Rattle.formula_meaning.specs.Tree.{Tree}
-use Rattle.atom_normal.specs.NormalForm.{negated_normal}
+use Rattle.logic_meaning.specs.NegationNormal.{normal_form}
+use Rattle.logic_meaning.specs.Tree.{Tree}
+use Rattle.logic_meaning.specs.NormalForm.{negated_normal}
 
 -- the negation normal form, with the normal negation of atoms
 abbrev pub negation_form : Tree → Tree

@@ -1,10 +1,10 @@
 -- The quantifiers of a formula in the order of the text, each with the block of the prefix that it stands in.
 use Rattle.std.specs.Prelude.{ℕ, zero, suc, ◌+◌, ◌%◌, List, [], ◌∷◌, ◌++◌, nat_eq, if◌then◌else◌}
-use Rattle.formula_meaning.specs.Formula.{And, Or, Ex, All, none, also}
-use Rattle.formula_meaning.specs.declared.quantifier.Quantifier.{Quantifier}
-use Rattle.formula_meaning.specs.declared.quantifier.Quantifier.TheVariants.{Exists, ForAll}
-use Rattle.formula_meaning.specs.Tree.{Tree, Trees}
-use Rattle.prenex_theory.specs.Blocks.{other_kind}
+use Rattle.logic_meaning.specs.Formula.{And, Or, Ex, All, none, also}
+use Rattle.logic_meaning.specs.declared.quantifier.Quantifier.{Quantifier}
+use Rattle.logic_meaning.specs.declared.quantifier.Quantifier.TheVariants.{Exists, ForAll}
+use Rattle.logic_meaning.specs.Tree.{Tree, Trees}
+use Rattle.logic_meaning.specs.Blocks.{other_kind}
 use Rattle.prenex_forms.specs.declared.front.Place.{Place}
 
 abbrev pub place_at : ℕ → ℕ → Place

@@ -1,22 +1,23 @@
 //! Atoms with other names, in normal form.
 
 ghost use Rattle.std.specs.Prelude.{◌≡◌, ℕ, Bool, false, take, IfOk, OnOk, IsErrOf};
-ghost use Rattle.formula_meaning.specs.Context.{Context as Theory};
-ghost use Rattle.formula_meaning.specs.Form.{coefficient};
-ghost use Rattle.formula_meaning.specs.Atom.{form_of};
-ghost use Rattle.formula_meaning.specs.TheoryAtoms.{AtomIn};
-ghost use Rattle.formula_meaning.specs.Sorted.{gathered};
+ghost use Rattle.logic_meaning.specs.Context.{Context as Theory};
+ghost use Rattle.logic_meaning.specs.Form.{coefficient};
+ghost use Rattle.logic_meaning.specs.Atom.{form_of};
+ghost use Rattle.formula_laws.specs.TheoryAtoms.{AtomIn};
+ghost use Rattle.logic_meaning.specs.Sorted.{gathered};
 ghost use Rattle.linear_forms.specs.Combinations.{IsLinear};
-ghost use Rattle.atom_normal.specs.Atoms.{context_of, atom_of, IsWellFormed};
-ghost use Rattle.atom_normal.specs.NormalForm.{normal_atom, IsNormal, ConstantPasses};
+ghost use Rattle.normal_atoms.specs.Atoms.{context_of, atom_of, IsWellFormed};
+ghost use Rattle.logic_meaning.specs.NormalForm.{normal_atom, IsNormal, ConstantPasses};
 ghost use Rattle.nnf_trees.specs.Nnfs.{nnf_of, IsProper};
-ghost use Rattle.prenex_theory.specs.Links.{IsOneToOne};
-ghost use Rattle.prenex_theory.specs.Renaming.{terms_named, form_named, atom_named};
+ghost use Rattle.shape_theory.specs.Links.{IsOneToOne};
+ghost use Rattle.logic_meaning.specs.Renaming.{terms_named, form_named, atom_named};
 ghost use Rattle.prenex_forms.specs.Named.{now_of, IsOneToOneForm};
 
-use atom_normal::{Atom, AtomError, Context, Normal, normal};
-use linear_forms::{Linear, VarId};
+use linear_forms::Linear;
+use logic_meaning::VarId;
 use nnf_trees::Nnf;
+use normal_atoms::{Atom, AtomError, Context, Normal, normal};
 use std::alloc::{AllocError, Global};
 use written_atoms::WholeSum;
 

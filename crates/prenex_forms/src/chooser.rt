@@ -2,7 +2,7 @@
 
 ghost use Rattle.std.specs.Prelude.{◌≡◌, vec_len};
 
-use linear_forms::VarId;
+use logic_meaning::VarId;
 use std::alloc::AllocError;
 
 /// Which names are taken, how many new ones were made, and what each name has become.
@@ -18,7 +18,7 @@ pub(crate) struct Chooser {
 
 impl Chooser {
     ghost use Rattle.std.specs.Prelude.{◌<◌, slice_set, IfOk, OnOk};
-    ghost use Rattle.prenex_theory.specs.Renaming.{chosen_name, chosen};
+    ghost use Rattle.logic_meaning.specs.Renaming.{chosen_name, chosen};
     ghost use Rattle.prenex_forms.specs.Chosen.{chosen_of};
 
     /// The name that a quantifier gets: its own, or the next new one where that is taken. It is taken from then on.

@@ -1,7 +1,7 @@
 //! The negation normal form of a formula of a store, as a tree.
 
 ghost use Rattle.std.specs.Prelude.{◌≡◌, ◌≤◌, ◌<◌, ◌⊎◌, IfOk, IfErr, OnOk, IsErrOf};
-ghost use Rattle.formula_meaning.specs.Sizes.{nodes};
+ghost use Rattle.logic_meaning.specs.Sizes.{nodes};
 ghost use Rattle.formula_tree.specs.Makers.{Keeps};
 ghost use Rattle.formula_store.specs.Nodes.{IsId, tree};
 ghost use Rattle.nnf_trees.specs.Nnfs.{nnf_of, IsProper};
@@ -10,7 +10,7 @@ ghost use Rattle.prenex_forms.specs.NegationForm.{negation_form};
 use formula_store::{FormulaId, Store, Unfold};
 use formula_tree::FormError;
 use nnf_trees::{Nnf, normal_form};
-use shared_elimination::unfolded;
+use reference_engine::unfolded;
 use std::alloc::Global;
 
 /// The negation normal form of the formula. `Nodes` comes exactly where it has more than `limit` nodes, and before it is unfolded,

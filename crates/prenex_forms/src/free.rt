@@ -1,16 +1,17 @@
 //! Which names are free in a formula.
 
 ghost use Rattle.std.specs.Prelude.{◌≡◌, ◌<◌, ◌↔◌, ℕ, pos, true, false, IsTrue, length, slice_set};
-ghost use Rattle.formula_meaning.specs.Form.{coefficient};
-ghost use Rattle.formula_meaning.specs.Atom.{Mentions};
-ghost use Rattle.formula_meaning.specs.Every.{FreeInSome};
-ghost use Rattle.formula_meaning.specs.Tree.{IsFree};
+ghost use Rattle.logic_meaning.specs.Form.{coefficient};
+ghost use Rattle.logic_meaning.specs.Atom.{Mentions};
+ghost use Rattle.logic_meaning.specs.Every.{FreeInSome};
+ghost use Rattle.logic_meaning.specs.Tree.{IsFree};
 ghost use Rattle.nnf_trees.specs.Nnfs.{nnf_of, nnfs_of};
 ghost use Rattle.prenex_forms.specs.Chosen.{flag};
 ghost use Rattle.prenex_forms.specs.Marks.{Marks};
 
 use crate::atoms::form;
-use linear_forms::{Linear, VarId};
+use linear_forms::Linear;
+use logic_meaning::VarId;
 use nnf_trees::{Members, Nnf};
 
 /// Marks each name that is free in the formula and not hidden. The hidden names are the same afterwards. It takes no memory, and

@@ -1,15 +1,15 @@
 //! Quantifiers of a formula in negation normal form: how many blocks they need, and in which each stands.
 
 ghost use Rattle.std.specs.Prelude.{◌≡◌, ◌++◌, IfSome, IfOk, OnOk};
-ghost use Rattle.formula_meaning.specs.Every.{EveryOf};
-ghost use Rattle.formula_meaning.specs.Shape.{blocks_from, most_blocks};
-ghost use Rattle.atom_normal.specs.Atoms.{IsWellFormed};
+ghost use Rattle.logic_meaning.specs.Every.{EveryOf};
+ghost use Rattle.logic_meaning.specs.Shape.{blocks_from, most_blocks};
+ghost use Rattle.normal_atoms.specs.Atoms.{IsWellFormed};
 ghost use Rattle.nnf_trees.specs.Nnfs.{nnf_of, nnfs_of, nnfs_atoms, IsProper};
-ghost use Rattle.prenex_theory.specs.Blocks.{matrix, matrices};
+ghost use Rattle.logic_meaning.specs.Blocks.{matrix, matrices};
 ghost use Rattle.prenex_forms.specs.Places.{level_behind, placed, placed_in};
 
-use linear_forms::VarId;
-use nnf_trees::{Members, Nnf, Quantifier};
+use logic_meaning::{Quantifier, VarId};
+use nnf_trees::{Members, Nnf};
 use std::alloc::{AllocError, Global};
 
 /// A quantified name, and the number of the block that it stands in.

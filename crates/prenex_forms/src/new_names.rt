@@ -2,12 +2,12 @@
 
 ghost use Rattle.std.specs.Prelude.{◌≡◌, ◌<◌, ◌≤◌, ◌++◌, ◌∷◌, [], ℕ, List, IfOk, OnOk, OnErr, length, take};
 ghost use Rattle.std.specs.List.{AllByRecursion};
-ghost use Rattle.formula_meaning.specs.Some.{Among};
-ghost use Rattle.prenex_theory.specs.NewNames.{new_text, IsFirstNew, AddsNewNames};
-ghost use Rattle.qe_syntax.specs.Names.{IsVariable};
+ghost use Rattle.logic_meaning.specs.Some.{Among};
+ghost use Rattle.logic_meaning.specs.NewNames.{new_text, IsFirstNew, AddsNewNames};
+ghost use Rattle.language_meaning.specs.Names.{IsVariable};
 
 use formula_tree::Names;
-use qe_syntax::Name;
+use logic_meaning::Name;
 use std::alloc::{AllocError, Global};
 
 /// Adds so many new names: each is the first of `v1`, `v2`, .. that is none yet. A script can write them. Its only error is want

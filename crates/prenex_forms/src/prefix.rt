@@ -3,15 +3,14 @@
 ghost use Rattle.std.specs.Prelude.{◌≡◌, IfOk};
 ghost use Rattle.formula_tree.specs.Makers.{IsMade, Keeps};
 ghost use Rattle.formula_store.specs.Nodes.{IsId, tree};
-ghost use Rattle.shared_elimination.specs.Shared.{quantified_shape};
-ghost use Rattle.prenex_theory.specs.Front.{block, prefixed};
+ghost use Rattle.reference_engine.specs.Shared.{quantified_shape};
+ghost use Rattle.logic_meaning.specs.Front.{block, prefixed};
 ghost use Rattle.prenex_forms.specs.Places.{kind_at, level_names, levels_of};
 
 use crate::front::Place;
 use formula_store::{FormulaId, Store};
 use formula_tree::{Maker, Shape};
-use linear_forms::VarId;
-use nnf_trees::Quantifier;
+use logic_meaning::{Quantifier, VarId};
 use std::alloc::AllocError;
 
 // The formula under a quantifier.

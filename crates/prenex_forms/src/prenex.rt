@@ -2,22 +2,22 @@
 
 ghost use Rattle.std.specs.Prelude.{◌≡◌, ◌≤◌, ◌<◌, ◌↔◌, ℕ, IfOk, OnOk, OnErr, IsErrOf, length};
 ghost use Rattle.std.specs.List.{AllByRecursion};
-ghost use Rattle.formula_meaning.specs.Every.{Every};
-ghost use Rattle.formula_meaning.specs.Sizes.{nodes};
-ghost use Rattle.formula_meaning.specs.Shape.{IsPrenex, fewest_blocks};
-ghost use Rattle.formula_meaning.specs.Tree.{IsFree};
-ghost use Rattle.formula_meaning.specs.Equivalence.{Equivalent};
-ghost use Rattle.atom_normal.specs.Atoms.{context_of};
-ghost use Rattle.atom_normal.specs.NormalForm.{IsNormal};
+ghost use Rattle.logic_meaning.specs.Every.{Every};
+ghost use Rattle.logic_meaning.specs.Sizes.{nodes};
+ghost use Rattle.logic_meaning.specs.Shape.{IsPrenex, fewest_blocks};
+ghost use Rattle.logic_meaning.specs.Tree.{IsFree};
+ghost use Rattle.formula_laws.specs.Equivalence.{Equivalent};
+ghost use Rattle.normal_atoms.specs.Atoms.{context_of};
+ghost use Rattle.logic_meaning.specs.NormalForm.{IsNormal};
 ghost use Rattle.formula_tree.specs.Makers.{IsMade, Keeps};
 ghost use Rattle.formula_store.specs.Nodes.{IsId, tree};
-ghost use Rattle.qe_syntax.specs.Names.{IsVariable};
-ghost use Rattle.formula_meaning.specs.Within.{IsTreeWithin};
-ghost use Rattle.prenex_theory.specs.Blocks.{block_count};
-ghost use Rattle.prenex_theory.specs.Renaming.{new_count};
-ghost use Rattle.prenex_theory.specs.NewNames.{AddsNewNames};
-ghost use Rattle.prenex_theory.specs.Prenex.{prenex_of};
-ghost use Rattle.prenex_forms.specs.Forms.{OverflowsInRenaming};
+ghost use Rattle.language_meaning.specs.Names.{IsVariable};
+ghost use Rattle.formula_laws.specs.Within.{IsTreeWithin};
+ghost use Rattle.logic_meaning.specs.Blocks.{block_count};
+ghost use Rattle.logic_meaning.specs.Renaming.{new_count};
+ghost use Rattle.logic_meaning.specs.NewNames.{AddsNewNames};
+ghost use Rattle.logic_meaning.specs.Prenex.{prenex_of};
+ghost use Rattle.language_meaning.specs.Forms.{OverflowsInRenaming};
 ghost use Rattle.prenex_forms.specs.NegationForm.{negation_form};
 
 use crate::form::unfolded_form;
@@ -25,9 +25,9 @@ use crate::new_names::add_new_names;
 use crate::renaming::renamed;
 use crate::start::start;
 use crate::whole::in_front;
-use atom_normal::{AtomError, Context};
 use formula_store::{FormulaId, Store};
 use formula_tree::{FormError, Names};
+use normal_atoms::{AtomError, Context};
 use std::alloc::Global;
 
 /// The prenex form of a formula: its negation normal form with the quantifiers in front, each in the earliest block of its kind

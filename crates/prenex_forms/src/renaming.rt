@@ -1,16 +1,16 @@
 //! A formula with its quantified names chosen.
 
 ghost use Rattle.std.specs.Prelude.{IfOk, IsErrOf};
-ghost use Rattle.formula_meaning.specs.Every.{EveryOf};
-ghost use Rattle.atom_normal.specs.Atoms.{context_of, IsWellFormed};
+ghost use Rattle.logic_meaning.specs.Every.{EveryOf};
+ghost use Rattle.normal_atoms.specs.Atoms.{context_of, IsWellFormed};
 ghost use Rattle.nnf_trees.specs.Nnfs.{nnf_of, nnfs_of, nnfs_atoms, IsProper};
 ghost use Rattle.prenex_forms.specs.Chosen.{CanRename, CanRenameAll, IsRenamed, AreRenamed, Overflows, SomeOverflows};
 
 use crate::atoms::renamed_atom;
 use crate::chooser::Chooser;
-use atom_normal::{AtomError, Context};
-use linear_forms::VarId;
+use logic_meaning::VarId;
 use nnf_trees::{Members, Nnf};
+use normal_atoms::{AtomError, Context};
 use std::alloc::Global;
 
 /// The formula with its quantified names chosen and its atoms in normal form. `Overflow` comes exactly where the normal form of an

@@ -1,8 +1,8 @@
 //! What is chosen before a formula.
 
 ghost use Rattle.std.specs.Prelude.{◌≡◌, ◌<◌, ℕ, false, IfOk, vec_len, nat_eq};
-ghost use Rattle.formula_meaning.specs.Shape.{is_in};
-ghost use Rattle.formula_meaning.specs.Tree.{IsFree, tree_names};
+ghost use Rattle.logic_meaning.specs.Shape.{is_in};
+ghost use Rattle.logic_meaning.specs.Tree.{IsFree, tree_names};
 ghost use Rattle.nnf_trees.specs.Nnfs.{nnf_of};
 ghost use Rattle.prenex_forms.specs.Named.{now_of};
 ghost use Rattle.prenex_forms.specs.Chosen.{flag};

@@ -4,15 +4,16 @@ ghost use Rattle.std.specs.Prelude.{◌≡◌, IfOk};
 ghost use Rattle.formula_tree.specs.Makers.{IsMade, Keeps};
 ghost use Rattle.formula_store.specs.Nodes.{IsId, tree};
 ghost use Rattle.nnf_trees.specs.Nnfs.{nnf_of, IsProper};
-ghost use Rattle.formula_meaning.specs.Shape.{blocks_from};
-ghost use Rattle.prenex_theory.specs.Blocks.{blocks as blocks_in, matrix};
-ghost use Rattle.prenex_theory.specs.Front.{in_front, prefixed};
+ghost use Rattle.logic_meaning.specs.Shape.{blocks_from};
+ghost use Rattle.logic_meaning.specs.Blocks.{blocks as blocks_in, matrix};
+ghost use Rattle.logic_meaning.specs.Front.{in_front, prefixed};
 
 use crate::front::{blocks_from, stripped};
 use crate::prefix::with_prefix;
 use formula_store::{FormulaId, Store};
-use nnf_trees::{Nnf, Quantifier};
-use shared_elimination::share;
+use logic_meaning::Quantifier;
+use nnf_trees::Nnf;
+use reference_engine::share;
 use std::alloc::{AllocError, Global};
 
 /// The formula with its quantifiers in front, in as few blocks as their nesting allows. Its only error is want of memory; the

@@ -2,7 +2,7 @@
 use Rattle.std.proofs.Common.{◌≡◌, ℕ, ◌+◌, List, ◌++◌, take, drop, sym, ◌∙◌, ap, refl}
 use Rattle.std.specs.Prelude.{Some}
 use Rattle.std.proofs.lemmas.List.{drop-drop, take-append-drop}
-use Rattle.qe_io.specs.Streams.{Gave}
+use Rattle.program_meaning.specs.Streams.{Gave}
 
 -- the first n bytes of those from next on, and what is left after them
 pub gave_front : (bytes : List ℕ) (next n : ℕ) (left given : List ℕ) → drop next bytes ≡ left → given ≡ take n (drop next bytes)

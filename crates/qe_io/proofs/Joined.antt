@@ -2,8 +2,8 @@
 use Rattle.std.proofs.Common.{arith, append-nil, refl, take-add, ◌≡◌, ◌∙◌, sym, ap, subst, ℕ, List, ◌++◌, Option, Some, None, [], ◌∷◌}
 use Rattle.std.proofs.lemmas.List.{append_assoc, take-append-drop, take_all, length-drop}
 use Rattle.std.specs.Prelude.{◌+◌, ◌-◌, length, take, drop}
-use Rattle.qe_io.specs.Streams.{Gave, IsAtEnd, Took}
-use Rattle.qe_io.specs.Ends.{TookFront}
+use Rattle.program_meaning.specs.Streams.{Gave, IsAtEnd, Took}
+use Rattle.program_meaning.specs.Ends.{TookFront}
 
 pub gave_joined : (a b c : Option (List ℕ)) (xs ys : List ℕ) → Gave a b xs → Gave b c ys → Gave a c (xs ++ ys)
 gave_joined None b c xs ys first next = subst (λ s. Gave s c ys) first next

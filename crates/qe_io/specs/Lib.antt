@@ -1,4 +1,2 @@
-pub mod Streams
 pub mod Memory
-pub mod Ends
 pub mod Stops

@@ -1,7 +1,7 @@
 -- What is seen of a source and a sink in memory.
 use Rattle.std.specs.Prelude.{ℕ, ◌+◌, Bool, List, if◌then◌else◌, nat_lt, ◌==◌}
 use Rattle.std.specs.List.{list_any}
-use Rattle.qe_io.specs.Streams.{last_count}
+use Rattle.program_meaning.specs.Streams.{last_count}
 
 pub record MemoryBytes : Type 0 where
   -- the bytes still to come

@@ -1,9 +1,9 @@
 ghost use Rattle.std.specs.Prelude.{◌≡◌, ℕ, ◌+◌, ◌-◌, ◌≤◌, ◌<◌, ◌==◌, ◌||◌, [], length, take, drop, min, IfOk, OnOk, OnErr, Some, is_err, vec_len};
-ghost use Rattle.qe_io.specs.Streams.{Gave, IsAtEnd, Took, Rose};
+ghost use Rattle.program_meaning.specs.Streams.{Gave, IsAtEnd, Took, Rose};
 ghost use Rattle.qe_io.specs.Memory.{counted, is_failing};
 
 use crate::copy::copy_front;
-use crate::{ReadFailed, Sink, Source, WriteFailed};
+use program_meaning::{ReadFailed, Sink, Source, WriteFailed};
 use std::alloc::Global;
 use std::marker::Model;
 use thiserror::Error;

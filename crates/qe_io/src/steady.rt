@@ -1,8 +1,8 @@
 ghost use Rattle.std.specs.Prelude.{◌≡◌, ◌≤◌, ◌<◌, Some, None, Ok, length, take, min, IfOk};
-ghost use Rattle.qe_io.specs.Streams.{Gave, IsAtEnd};
+ghost use Rattle.program_meaning.specs.Streams.{Gave, IsAtEnd};
 
 use crate::copy::copy_front;
-use crate::{ReadFailed, Sink, Source, WriteFailed};
+use program_meaning::{ReadFailed, Sink, Source, WriteFailed};
 use std::marker::Model;
 
 /// A source over bytes in memory that never fails.

@@ -2,7 +2,7 @@ ghost use Rattle.std.specs.Prelude.{◌≡◌};
 ghost use Rattle.qe_io.specs.declared.stop.AnswerStop.TheVariants.{Memory, Write};
 ghost use Rattle.qe_io.specs.declared.stop.StreamStop.TheVariants.{Answer, Read};
 
-use crate::{ReadFailed, WriteFailed};
+use program_meaning::{ReadFailed, WriteFailed};
 use std::alloc::AllocError;
 use thiserror::Error;
 

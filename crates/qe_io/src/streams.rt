@@ -1,8 +1,8 @@
 ghost use Rattle.std.specs.Prelude.{◌≡◌, ◌≤◌, ◌<◌, ℕ, List, None, length, take, IfOk, OnOk, OnErr};
 ghost use Rattle.qe_io.specs.Memory.{counted};
-ghost use Rattle.qe_io.specs.Streams.{Gave, IsAtEnd, Took, Rose};
+ghost use Rattle.program_meaning.specs.Streams.{Gave, IsAtEnd, Took, Rose};
 
-use crate::{ReadFailed, Sink, Source, WriteFailed};
+use program_meaning::{ReadFailed, Sink, Source, WriteFailed};
 use std::io::{Read, Write};
 
 /// A source over a real reader, which it trusts for the count that a read gives. It tells nothing of the bytes.

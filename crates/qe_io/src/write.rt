@@ -1,8 +1,8 @@
 ghost use Rattle.std.specs.Prelude.{◌≡◌, OnOk, OnErr};
-ghost use Rattle.qe_io.specs.Ends.{TookFront};
-ghost use Rattle.qe_io.specs.Streams.{Took, Rose};
+ghost use Rattle.program_meaning.specs.Ends.{TookFront};
+ghost use Rattle.program_meaning.specs.Streams.{Took, Rose};
 
-use crate::{Sink, WriteFailed};
+use program_meaning::{Sink, WriteFailed};
 
 /// Writes all the bytes. After an `Err` some bytes in front were written.
 pub fn write_all<K: Sink>(sink: &mut K, bytes: &[u8]) -> Result<(), WriteFailed>

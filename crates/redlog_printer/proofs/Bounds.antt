@@ -1,12 +1,12 @@
 -- How long texts are at least.
 use Rattle.std.proofs.Common.{ℕ, suc, ◌+◌, ◌*◌, ◌≤◌, Bool, true, false, List, length, arith, length-append}
 use Rattle.std.specs.Prelude.{codes}
-use Rattle.formula_meaning.specs.Formula.{Yes, No, One, Not, And, Or, Impl, Repl, Equiv, Ex, All, none, also}
-use Rattle.formula_meaning.specs.Sizes.{nodes, all_nodes}
-use Rattle.formula_meaning.specs.Atom.{Atom, Compare, Congruent, Relation, Equals, Differs, Below, AtMost, Above, AtLeast}
-use Rattle.formula_meaning.specs.Tree.{Tree, Trees}
-use Rattle.redlog_printer.specs.Text.{relation_text, atom_text, is_compound, in_parentheses, tree_text, members_text, more_text}
-use Rattle.formula_meaning.specs.Members.{HasTwoMembers, HaveTwoMembers}
+use Rattle.logic_meaning.specs.Formula.{Yes, No, One, Not, And, Or, Impl, Repl, Equiv, Ex, All, none, also}
+use Rattle.logic_meaning.specs.Sizes.{nodes, all_nodes}
+use Rattle.logic_meaning.specs.Atom.{Atom, Compare, Congruent, Relation, Equals, Differs, Below, AtMost, Above, AtLeast}
+use Rattle.logic_meaning.specs.Tree.{Tree, Trees}
+use Rattle.logic_meaning.specs.Text.{relation_text, atom_text, is_compound, in_parentheses, tree_text, members_text, more_text}
+use Rattle.logic_meaning.specs.Members.{HasTwoMembers, HaveTwoMembers}
 use Rattle.redlog_printer.specs.Bound.{NodesBoundText}
 
 -- parentheses make a text no shorter

@@ -1,2 +1,4 @@
 pub mod Bounds
 pub mod Written
+pub mod TextLemmas
+pub mod Separating

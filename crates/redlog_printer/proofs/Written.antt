@@ -2,10 +2,10 @@
 use Rattle.std.proofs.Common.{◌≡◌, ℕ, zero, suc, ◌+◌, ◌<◌, ◌≤◌, ℤ, pos, negsuc, Some, None, List, [], ◌∷◌, ◌++◌, length, drop, map, slice_get, refl, sym, ap, ◌∙◌, subst, arith, length-append, append_assoc, append-nil, add-one}
 use Rattle.std.proofs.Math.Seq.{drop-cons}
 use Rattle.std.proofs.lemmas.Option.{slice_get_within, get_or_from_slice_get}
-use Rattle.formula_meaning.specs.Form.{Term}
+use Rattle.logic_meaning.specs.Form.{Term}
 use Rattle.formula_tree.specs.declared.tree.Tree as code
 use Rattle.formula_tree.specs.Trees.{members, tree_of}
-use Rattle.redlog_printer.specs.Text.{later_sign, later_multiple, in_parentheses, is_compound, tree_text, more_text}
+use Rattle.logic_meaning.specs.Text.{later_sign, later_multiple, in_parentheses, is_compound, tree_text, more_text}
 
 -- the element at a place begins what is behind
 pub drop_at : {X : Type 0} (xs : List X) (i : ℕ) (x : X) → slice_get xs i ≡ Some x → drop i xs ≡ x ∷ drop (i + 1) xs

@@ -1,9 +1,9 @@
 -- How long the text of a formula is at least.
 use Rattle.std.specs.Prelude.{ℕ, ◌*◌, ◌≤◌, List, length}
-use Rattle.formula_meaning.specs.Members.{HasTwoMembers}
-use Rattle.formula_meaning.specs.Sizes.{nodes}
-use Rattle.formula_meaning.specs.Tree.{Tree}
-use Rattle.redlog_printer.specs.Text.{tree_text}
+use Rattle.logic_meaning.specs.Members.{HasTwoMembers}
+use Rattle.logic_meaning.specs.Sizes.{nodes}
+use Rattle.logic_meaning.specs.Tree.{Tree}
+use Rattle.logic_meaning.specs.Text.{tree_text}
 
 -- a formula of n nodes whose conjunctions and disjunctions have two members at least has a text of 4 * n bytes at least
 abbrev pub NodesBoundText : Type 0

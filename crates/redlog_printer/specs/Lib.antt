@@ -1,4 +1,4 @@
-pub mod Text
 pub mod ArgumentText
 pub mod Bound
-pub mod Writing
+pub mod Texts
+pub mod Within

@@ -2,14 +2,17 @@
 
 ghost use Rattle.std.specs.Prelude.{◌≡◌, ◌<◌, ◌≤◌, ◌+◌, ◌++◌, OnOk, IsErrOf, length, drop};
 ghost use Rattle.std.specs.List.{flat_map};
-ghost use Rattle.formula_tree.specs.FromAtomNormal.{atom_of, relation_of};
-ghost use Rattle.redlog_printer.specs.Text.{first_sign, later_sign, multiple_text, later_multiple, later_constant, form_text, relation_text, congruence_text, atom_text};
-ghost use Rattle.formula_meaning.specs.Within.{AreTermsWithin, IsAtomWithin};
-ghost use Rattle.redlog_printer.specs.Writing.{text_limit};
+ghost use Rattle.normal_atoms.specs.Atoms.{atom_of, relation_of};
+ghost use Rattle.logic_meaning.specs.Text.{first_sign, later_sign, multiple_text, later_multiple, later_constant, form_text, relation_text, congruence_text, atom_text};
+ghost use Rattle.formula_laws.specs.Within.{AreTermsWithin, IsAtomWithin};
+ghost use Rattle.logic_meaning.specs.Writing.{text_limit};
 
 use crate::error::PrintError;
 use crate::output::Output;
-use formula_tree::{Atom, Linear, Names, Rel, VarId};
+use formula_tree::Names;
+use linear_forms::Linear;
+use logic_meaning::VarId;
+use normal_atoms::{Atom, Rel};
 
 // The sign before the first part of a sum.
 fn first_sign(number: i128) -> &'static [u8]

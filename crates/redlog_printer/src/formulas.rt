@@ -2,15 +2,16 @@
 
 ghost use Rattle.std.specs.Prelude.{◌≡◌, ◌<◌, ◌≤◌, ◌+◌, ◌++◌, ℕ, IfOk, OnOk, IsErrOf, length, codes};
 ghost use Rattle.formula_tree.specs.Trees.{tree_of, trees_of};
-ghost use Rattle.redlog_printer.specs.Text.{name_at, is_compound, tree_text, members_text};
+ghost use Rattle.logic_meaning.specs.Text.{name_at, is_compound, tree_text, members_text};
 ghost use Rattle.redlog_printer.specs.ArgumentText.{argument_text};
-ghost use Rattle.formula_meaning.specs.Within.{IsTreeWithin, AreTreesWithin};
-ghost use Rattle.redlog_printer.specs.Writing.{text_limit};
+ghost use Rattle.formula_laws.specs.Within.{IsTreeWithin, AreTreesWithin};
+ghost use Rattle.logic_meaning.specs.Writing.{text_limit};
 
 use crate::error::PrintError;
 use crate::forms::put_atom;
 use crate::output::Output;
-use formula_tree::{Names, Tree, Trees, VarId};
+use formula_tree::{Names, Tree, Trees};
+use logic_meaning::VarId;
 use std::alloc::Global;
 
 /// The text of a formula, where the names of the list are numbered by their places. `Text` comes exactly where the text

@@ -2,16 +2,14 @@
 
 ghost use Rattle.std.specs.Prelude.{◌≡◌, ◌<◌, ◌≤◌, ◌+◌, ◌++◌, [], OnOk, IsErrOf, length};
 ghost use Rattle.std.specs.Fmt.{decimal};
-ghost use Rattle.redlog_printer.specs.Text.{name_at};
+ghost use Rattle.logic_meaning.specs.Text.{name_at};
 
 use crate::error::PrintError;
-use formula_tree::{Names, VarId};
+use formula_tree::Names;
 use itoa::Buffer;
+use logic_meaning::{TEXT_LIMIT, VarId};
 use std::alloc::Global;
 use std::marker::Model;
-
-/// The most bytes of a text: 32 MiB.
-pub const TEXT_LIMIT: usize = 33_554_432;
 
 /// The bytes of a text so far, never more than the limit.
 #[derive(Drop)]
@@ -21,7 +19,7 @@ pub struct Output {
 
 impl Model for Output {
     ghost use Rattle.std.specs.Prelude.{List, ℕ, ◌≤◌, length};
-    ghost use Rattle.redlog_printer.specs.Writing.{text_limit};
+    ghost use Rattle.logic_meaning.specs.Writing.{text_limit};
 
     ghost Value = { List ℕ };
 
@@ -31,7 +29,7 @@ impl Model for Output {
 }
 
 impl Output {
-    ghost use Rattle.redlog_printer.specs.Writing.{text_limit};
+    ghost use Rattle.logic_meaning.specs.Writing.{text_limit};
 
     /// Nothing so far.
     pub fn new(alloc: Global) -> Output

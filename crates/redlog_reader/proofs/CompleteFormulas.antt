@@ -1,26 +1,22 @@
 -- Each formula that the grammar spells is read.
 use Rattle.std.proofs.Common.{◌≡◌, ℕ, ◌<◌, ◌≤◌, Bool, true, false, List, [], ◌∷◌, ◌++◌, sym, refl, ap, ◌∙◌, arith, append_assoc}
 use Rattle.std.specs.Prelude.{Some, None, if◌then◌else◌}
-use Rattle.formula_meaning.specs.Formula.{Yes, No, One, Not, Impl, Repl, Equiv}
-use Rattle.formula_meaning.specs.declared.junction.Junction.TheVariants.{Conjunction, Disjunction}
-use Rattle.formula_meaning.specs.declared.quantifier.Quantifier.{Quantifier}
-use Rattle.formula_meaning.specs.declared.quantifier.Quantifier.TheVariants.{Exists, ForAll}
-use Rattle.qe_syntax.specs.declared.tree.Relation.{Relation}
-use Rattle.qe_syntax.specs.Trees.{TermTree, Compare}
-use Rattle.qe_syntax.specs.Holes.{whole, over, over_both, computed}
-use Rattle.redlog_tokens.specs.declared.terminal.Terminal.{Terminal}
-use Rattle.redlog_tokens.specs.declared.terminal.Terminal.TheVariants as terminal
-use Rattle.redlog_tokens.specs.declared.terminal.Mark.TheVariants as mark
-use Rattle.redlog_tokens.specs.declared.terminal.Word.{Word}
-use Rattle.redlog_tokens.specs.declared.terminal.Word.TheVariants as word
-use Rattle.redlog_reader.specs.declared.inner_word.InnerWord.{InnerWord}
+use Rattle.logic_meaning.specs.Formula.{Yes, No, One, Not, Impl, Repl, Equiv}
+use Rattle.logic_meaning.specs.declared.junction.Junction.TheVariants.{Conjunction, Disjunction}
+use Rattle.logic_meaning.specs.declared.quantifier.Quantifier.{Quantifier}
+use Rattle.logic_meaning.specs.declared.quantifier.Quantifier.TheVariants.{Exists, ForAll}
+use Rattle.language_meaning.specs.declared.tree.Relation.{Relation}
+use Rattle.language_meaning.specs.Trees.{TermTree, Compare}
+use Rattle.language_meaning.specs.Holes.{whole, over, over_both, computed}
+use Rattle.language_meaning.specs.declared.terminal.Terminal.{Terminal}
+use Rattle.language_meaning.specs.declared.terminal.Terminal.TheVariants as terminal
+use Rattle.language_meaning.specs.declared.terminal.Mark.TheVariants as mark
+use Rattle.language_meaning.specs.declared.terminal.Word.{Word}
+use Rattle.language_meaning.specs.declared.terminal.Word.TheVariants as word
+use Rattle.language_meaning.specs.declared.inner_word.InnerWord.{InnerWord}
 use Rattle.redlog_reader.specs.declared.pending.Arrow.TheVariants as arrow
-use Rattle.redlog_reader.specs.Machine.{Reading, Formula, Bare, term_of, formula_of, Frame, Group, Quantified, Congruence, Negation, Compares, Listed, Arrows, Commanded, Assumes, Relates, Call, with_atom}
-use Rattle.redlog_reader.specs.Machine.{Wants, Fresh, Held, Binding, NameWanted, NameRead, AtomWanted, BraceWanted, GivenEnd, Outcome, Fails, Moves, strength, takes, on_term, on_formula, continued, listed, grouped, pushed, compares, congruence_of, congruence_read, commands, wanted, atom_ends, operated, held, step, run}
-use Rattle.redlog_reader.specs.Grammar.{Written, conjunction_of, disjunction_of, quantified_names, inner_word, command}
-use Rattle.redlog_reader.specs.Grammar.{SpellsFactor, SpellsPower, first_power, raised, product, SpellsSum, sum, IsRelation, relation_sign, relation_word, SpellsComparison, comparison, SpellsCongruence, congruent, incongruent, SpellsAtom, compared_atom, congruent_atom, Listed as AllOf, last_item, more_items, SpellsAtoms, empty, listed as in_braces, Names, last_name, more_names, SpellsNames, one_name, many_names}
-use Rattle.redlog_reader.specs.Grammar.{SpellsPrime, truth, falsity, named_formula, congruence, inner_formula, exists, for_all, inner_command, inner_under, SpellsNegation, negation, compared, prime, SpellsConjunction, conjunction, Conjuncts, no_conjunct, conjunct, SpellsDisjunction, disjunction, Disjuncts, no_disjunct, disjunct}
-use Rattle.redlog_reader.specs.Grammar.{SpellsImplication, no_implication, implication, SpellsReplication, replication, Repls, no_repl, repl, SpellsFormula, equivalence, Equivs, no_equiv, equiv}
+use Rattle.redlog_reader.specs.Machine.{Reading, Formula, Bare, term_of, formula_of, Frame, Group, Quantified, Congruence, Negation, Compares, Listed, Arrows, Commanded, Assumes, Relates, Call, with_atom, Wants, Fresh, Held, Binding, NameWanted, NameRead, AtomWanted, BraceWanted, GivenEnd, Outcome, Fails, Moves, strength, takes, on_term, on_formula, continued, listed, grouped, pushed, compares, congruence_of, congruence_read, commands, wanted, atom_ends, operated, held, step, run}
+use Rattle.language_meaning.specs.Grammar.{Written, conjunction_of, disjunction_of, quantified_names, inner_word, command, SpellsFactor, SpellsPower, first_power, raised, product, SpellsSum, sum, IsRelation, relation_sign, relation_word, SpellsComparison, comparison, SpellsCongruence, congruent, incongruent, SpellsAtom, compared_atom, congruent_atom, Listed as AllOf, last_item, more_items, SpellsAtoms, empty, listed as in_braces, Names, last_name, more_names, SpellsNames, one_name, many_names, SpellsPrime, truth, falsity, named_formula, congruence, inner_formula, exists, for_all, inner_command, inner_under, SpellsNegation, negation, compared, prime, SpellsConjunction, conjunction, Conjuncts, no_conjunct, conjunct, SpellsDisjunction, disjunction, Disjuncts, no_disjunct, disjunct, SpellsImplication, no_implication, implication, SpellsReplication, replication, Repls, no_repl, repl, SpellsFormula, equivalence, Equivs, no_equiv, equiv}
 use Rattle.redlog_reader.proofs.Steps.{strength_at, ReadsFormula, outcome, moves, is_term, is_formula, within, put, ends, no_power, level_kept}
 use Rattle.redlog_reader.proofs.CompleteTerms.{complete_sum}
 

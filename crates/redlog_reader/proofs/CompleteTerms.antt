@@ -1,13 +1,12 @@
 -- Each sum that the grammar spells is read.
 use Rattle.std.proofs.Common.{◌≡◌, ℕ, ◌<◌, ◌≤◌, Bool, true, false, List, [], ◌∷◌, ◌++◌, sym, refl, ap, ◌∙◌, arith}
 use Rattle.std.specs.Prelude.{Some, None}
-use Rattle.qe_syntax.specs.Trees.{TermTree, Number, Power}
-use Rattle.redlog_tokens.specs.declared.terminal.Terminal.{Terminal}
-use Rattle.redlog_tokens.specs.declared.terminal.Terminal.TheVariants as terminal
-use Rattle.redlog_tokens.specs.declared.terminal.Mark.TheVariants as mark
-use Rattle.redlog_reader.specs.Machine.{Reading, Term, Bare, term_of, Frame, Group, Added, Multiplied}
-use Rattle.redlog_reader.specs.Machine.{Wants, Fresh, Held, Raised, Fails, Moves, strength, takes, signed_term, multiplied, continued, factors, members, pushed, multiplies, adds, operated, held}
-use Rattle.redlog_reader.specs.Grammar.{product_of, sum_of, SpellsFactor, number, variable, inner_sum, SpellsPower, first_power, raised, SpellsProduct, product, Factors, no_factor, times, quotient, SpellsSum, sum, plus_sum, minus_sum, Members, no_member, plus, minus}
+use Rattle.language_meaning.specs.Trees.{TermTree, Number, Power}
+use Rattle.language_meaning.specs.declared.terminal.Terminal.{Terminal}
+use Rattle.language_meaning.specs.declared.terminal.Terminal.TheVariants as terminal
+use Rattle.language_meaning.specs.declared.terminal.Mark.TheVariants as mark
+use Rattle.redlog_reader.specs.Machine.{Reading, Term, Bare, term_of, Frame, Group, Added, Multiplied, Wants, Fresh, Held, Raised, Fails, Moves, strength, takes, signed_term, multiplied, continued, factors, members, pushed, multiplies, adds, operated, held}
+use Rattle.language_meaning.specs.Grammar.{product_of, sum_of, SpellsFactor, number, variable, inner_sum, SpellsPower, first_power, raised, SpellsProduct, product, Factors, no_factor, times, quotient, SpellsSum, sum, plus_sum, minus_sum, Members, no_member, plus, minus}
 use Rattle.redlog_reader.proofs.Steps.{strength_at, ReadsTerm, moves, is_term, within, put, ends, no_power, level_kept}
 
 -- the list that has been read so far, with its last member held

@@ -1,20 +1,20 @@
 -- Worked examples of the definitions. Each side is computed.
 use Rattle.std.proofs.Common.{◌≡◌, [], ◌∷◌, refl, codes}
 use Rattle.std.specs.Prelude.{pos, neg_ℤ, ℤ, Some, None, List}
-use Rattle.formula_meaning.specs.Formula.{One, Impl, Repl, Ex}
-use Rattle.qe_syntax.specs.Trees.{TermTree, Named, Product, Quotient, Negative, Sum, Bound, Compare, Cong, terms_of, FormulaTree, formulas_of}
-use Rattle.qe_syntax.specs.Holes.{alone, beside, nest, inner_name, whole, computed}
-use Rattle.qe_syntax.specs.Holes as inside
-use Rattle.qe_syntax.specs.declared.tree.Literal.TheVariants.{Fits}
-use Rattle.qe_syntax.specs.declared.tree.Relation.TheVariants.{Equal, Differs, Less, AtMost, Greater}
-use Rattle.statement_syntax.specs.declared.grid.Ratio.{Ratio}
-use Rattle.statement_syntax.specs.declared.grid.GridAxis.{GridAxis}
-use Rattle.statement_syntax.specs.Statements.{Echo, Nnf, Simpl, Grid, Certify, Check, Least, Say}
-use Rattle.statement_syntax.specs.Inner.{bare}
-use Rattle.redlog_tokens.specs.declared.terminal.Terminal.{Terminal}
-use Rattle.redlog_tokens.specs.declared.terminal.Terminal.TheVariants as terminal
-use Rattle.redlog_tokens.specs.declared.terminal.Mark.TheVariants as mark
-use Rattle.redlog_tokens.specs.declared.terminal.Word.TheVariants as word
+use Rattle.logic_meaning.specs.Formula.{One, Impl, Repl, Ex}
+use Rattle.language_meaning.specs.Trees.{TermTree, Named, Product, Quotient, Negative, Sum, Bound, Compare, Cong, terms_of, FormulaTree, formulas_of}
+use Rattle.language_meaning.specs.Holes.{alone, beside, nest, inner_name, whole, computed}
+use Rattle.language_meaning.specs.Holes as inside
+use Rattle.language_meaning.specs.declared.tree.Literal.TheVariants.{Fits}
+use Rattle.language_meaning.specs.declared.tree.Relation.TheVariants.{Equal, Differs, Less, AtMost, Greater}
+use Rattle.language_meaning.specs.declared.grid.Ratio.{Ratio}
+use Rattle.language_meaning.specs.declared.grid.GridAxis.{GridAxis}
+use Rattle.language_meaning.specs.Statements.{Echo, Nnf, Simpl, Grid, Certify, Check, Least, Say}
+use Rattle.language_meaning.specs.Inner.{bare}
+use Rattle.language_meaning.specs.declared.terminal.Terminal.{Terminal}
+use Rattle.language_meaning.specs.declared.terminal.Terminal.TheVariants as terminal
+use Rattle.language_meaning.specs.declared.terminal.Mark.TheVariants as mark
+use Rattle.language_meaning.specs.declared.terminal.Word.TheVariants as word
 use Rattle.redlog_reader.specs.Reader.{formula_read, sum_read, action_read}
 
 abbrev opening : Terminal

@@ -2,10 +2,10 @@
 use Rattle.std.proofs.Common.{◌≡◌, ℕ, ◌<◌, List, [], ◌∷◌, ◌++◌, map, length, ◌-◌, suc, sym, subst, refl, ap, ◌∙◌, arith}
 use Rattle.std.specs.Prelude.{Some, None, slice_get, if◌then◌else◌}
 use Rattle.std.proofs.lemmas.Bool.{lt-ltb}
-use Rattle.formula_meaning.specs.Shape.{quantified}
-use Rattle.formula_meaning.specs.declared.quantifier.Quantifier.{Quantifier}
-use Rattle.qe_syntax.specs.Holes.{over}
-use Rattle.redlog_reader.specs.Grammar.{Written, quantified_names}
+use Rattle.logic_meaning.specs.Shape.{quantified}
+use Rattle.logic_meaning.specs.declared.quantifier.Quantifier.{Quantifier}
+use Rattle.language_meaning.specs.Holes.{over}
+use Rattle.language_meaning.specs.Grammar.{Written, quantified_names}
 use Rattle.redlog_reader.specs.Machine.{Reading, Frame, level, takes_last, takes, ended, folded}
 use Rattle.std.proofs.lemmas.List.{reverse-append}
 use Rattle.redlog_reader.specs.declared.pending.Pending.{Pending}

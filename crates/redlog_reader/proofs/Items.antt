@@ -1,18 +1,18 @@
 -- Reading a list of items.
 use Rattle.std.proofs.Common.{◌≡◌, ℕ, zero, suc, ◌<◌, ◌≤◌, Bool, true, false, List, [], ◌∷◌, ◌++◌, length, sym, refl, ap, ◌∙◌, subst, arith, append_assoc}
 use Rattle.std.specs.Prelude.{pos, Option, Some, None, nat_le, if◌then◌else◌, ◌==◌}
-use Rattle.qe_syntax.specs.declared.tree.Literal.{Literal}
-use Rattle.qe_syntax.specs.declared.tree.Literal.TheVariants.{Fits}
-use Rattle.qe_syntax.specs.declared.tree.Relation.TheVariants.{Equal}
-use Rattle.qe_syntax.specs.declared.entries.PointEntry.{PointEntry}
-use Rattle.statement_syntax.specs.declared.grid.GridAxis.{GridAxis}
-use Rattle.statement_syntax.specs.Constraints.{is_constraint, is_weak_constraint}
-use Rattle.redlog_tokens.specs.declared.terminal.Terminal.{Terminal}
-use Rattle.redlog_tokens.specs.declared.terminal.Terminal.TheVariants as terminal
-use Rattle.redlog_tokens.specs.declared.terminal.Mark.{Mark}
-use Rattle.redlog_tokens.specs.declared.terminal.Mark.TheVariants as mark
-use Rattle.redlog_tokens.specs.declared.terminal.Word.TheVariants as word
-use Rattle.redlog_reader.specs.Grammar.{Written}
+use Rattle.language_meaning.specs.declared.tree.Literal.{Literal}
+use Rattle.language_meaning.specs.declared.tree.Literal.TheVariants.{Fits}
+use Rattle.language_meaning.specs.declared.tree.Relation.TheVariants.{Equal}
+use Rattle.language_meaning.specs.declared.entries.PointEntry.{PointEntry}
+use Rattle.language_meaning.specs.declared.grid.GridAxis.{GridAxis}
+use Rattle.language_meaning.specs.Constraints.{is_constraint, is_weak_constraint}
+use Rattle.language_meaning.specs.declared.terminal.Terminal.{Terminal}
+use Rattle.language_meaning.specs.declared.terminal.Terminal.TheVariants as terminal
+use Rattle.language_meaning.specs.declared.terminal.Mark.{Mark}
+use Rattle.language_meaning.specs.declared.terminal.Mark.TheVariants as mark
+use Rattle.language_meaning.specs.declared.terminal.Word.TheVariants as word
+use Rattle.language_meaning.specs.Grammar.{Written}
 use Rattle.redlog_reader.specs.Machine.{Reading, Frame, Mode, Wants, Outcome, Fails, Stops, Moves, Negation, Added, level, takes, pushed, wanted, step, run, term_of, formula_of}
 use Rattle.redlog_reader.specs.declared.argument.AtomKind.{AtomKind}
 use Rattle.redlog_reader.specs.declared.argument.AtomKind.TheVariants as kind

@@ -1,9 +1,9 @@
 -- Lists of several members.
 use Rattle.std.proofs.Common.{◌≡◌, List, [], ◌∷◌, map, length, refl}
-use Rattle.formula_meaning.specs.Formula.{And, Or}
-use Rattle.qe_syntax.specs.Trees.{TermTree, Sum, Product, terms_of}
-use Rattle.qe_syntax.specs.Holes.{over, all_of}
-use Rattle.redlog_reader.specs.Grammar.{Written, sum_of, product_of, conjunction_of, disjunction_of}
+use Rattle.logic_meaning.specs.Formula.{And, Or}
+use Rattle.language_meaning.specs.Trees.{TermTree, Sum, Product, terms_of}
+use Rattle.language_meaning.specs.Holes.{over, all_of}
+use Rattle.language_meaning.specs.Grammar.{Written, sum_of, product_of, conjunction_of, disjunction_of}
 
 pub many_members : {A : Type 0} (f : A → TermTree) (xs : List A) → (length xs ≡ 1 → ⊥) → sum_of (map f xs) ≡ Sum (terms_of (map f xs))
 many_members f [] h = refl

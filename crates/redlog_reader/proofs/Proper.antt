@@ -4,41 +4,37 @@ use Rattle.std.specs.Prelude.{ℤ, negsuc, neg_ℤ, unsigned_abs, pos, Some, Non
 use Rattle.std.specs.List.{AllByRecursion}
 use Rattle.std.proofs.lemmas.Int.{ints}
 use Rattle.std.proofs.lemmas.List.{length-replicate}
-use Rattle.formula_meaning.specs.Formula.{Yes, No, One, Not, And, Or, Impl, Repl, Equiv, Ex, All}
-use Rattle.formula_meaning.specs.Formula as plain
-use Rattle.formula_meaning.specs.Replaced.{all_replaced}
-use Rattle.formula_meaning.specs.Shape.{quantified}
-use Rattle.formula_meaning.specs.declared.quantifier.Quantifier.{Quantifier}
-use Rattle.formula_meaning.specs.declared.quantifier.Quantifier.TheVariants.{Exists, ForAll}
-use Rattle.qe_syntax.specs.declared.tree.Literal.{Literal}
-use Rattle.qe_syntax.specs.declared.tree.Literal.TheVariants.{Fits, Past}
-use Rattle.qe_syntax.specs.declared.tree.Relation.{Relation}
-use Rattle.qe_syntax.specs.declared.entries.PointEntry.{PointEntry}
-use Rattle.qe_syntax.specs.Names.{IsVariable}
-use Rattle.qe_syntax.specs.Trees.{TermTree, Negative, terms_of, WrittenAtom, Compare, Cong, Ncong, Bound, FormulaTree, FormulaTrees}
-use Rattle.qe_syntax.specs.Holes.{InnerTree, Nest, Nests, nest, inner_name, together, command_count, command_alone, Holed, whole, over, over_both, all_of, nested_under, computed}
-use Rattle.qe_syntax.specs.Holes as inside
-use Rattle.qe_syntax.specs.Proper.{IsNumeral, IsSigned}
-use Rattle.qe_syntax.specs.Writable.{IsWritableEntry, AreWritableEntries, IsWritableTerm, AreWritableTerms, IsWritableAtom, IsWritableFormula, AreWritableFormulas}
-use Rattle.statement_syntax.specs.declared.grid.Ratio.{Ratio}
-use Rattle.statement_syntax.specs.declared.grid.GridAxis.{GridAxis}
-use Rattle.statement_syntax.specs.Constraints.{is_constraint, is_weak_constraint}
-use Rattle.statement_syntax.specs.ConstraintLists.{AreConstraints, AreWeakConstraints}
-use Rattle.statement_syntax.specs.Statements.{CommandTree, Echo, ActionTree, Ignored, Finish, Choose, Retract, StatementTree}
-use Rattle.statement_syntax.specs.Inner.{WithInner, bare, about, command_in, command_of}
-use Rattle.statement_syntax.specs.Writable.{IsWritableRatio, IsWritableAxis, AreWritableNumbers, unanswered_atom, unanswered, IsFormulaBeside, IsCommandOver, IsActionOver, IsInnerOver, IsWritableAction, IsWritableNest, AreWritableNests, IsWritable}
-use Rattle.redlog_tokens.specs.declared.terminal.Terminal.{Terminal}
-use Rattle.redlog_tokens.specs.declared.terminal.Terminal.TheVariants as terminal
-use Rattle.redlog_tokens.specs.declared.terminal.Mark.TheVariants as mark
-use Rattle.redlog_tokens.specs.declared.terminal.Word.{Word}
+use Rattle.logic_meaning.specs.Formula.{Yes, No, One, Not, And, Or, Impl, Repl, Equiv, Ex, All}
+use Rattle.logic_meaning.specs.Formula as plain
+use Rattle.logic_meaning.specs.Replaced.{all_replaced}
+use Rattle.logic_meaning.specs.Shape.{quantified}
+use Rattle.logic_meaning.specs.declared.quantifier.Quantifier.{Quantifier}
+use Rattle.logic_meaning.specs.declared.quantifier.Quantifier.TheVariants.{Exists, ForAll}
+use Rattle.language_meaning.specs.declared.tree.Literal.{Literal}
+use Rattle.language_meaning.specs.declared.tree.Literal.TheVariants.{Fits, Past}
+use Rattle.language_meaning.specs.declared.tree.Relation.{Relation}
+use Rattle.language_meaning.specs.declared.entries.PointEntry.{PointEntry}
+use Rattle.language_meaning.specs.Names.{IsVariable}
+use Rattle.language_meaning.specs.Trees.{TermTree, Negative, terms_of, WrittenAtom, Compare, Cong, Ncong, Bound, FormulaTree, FormulaTrees}
+use Rattle.language_meaning.specs.Holes.{InnerTree, Nest, Nests, nest, inner_name, together, command_count, command_alone, Holed, whole, over, over_both, all_of, nested_under, computed}
+use Rattle.language_meaning.specs.Holes as inside
+use Rattle.written_syntax.specs.Proper.{IsNumeral, IsSigned}
+use Rattle.written_syntax.specs.Writable.{IsWritableEntry, AreWritableEntries, IsWritableTerm, AreWritableTerms, IsWritableAtom, IsWritableFormula, AreWritableFormulas}
+use Rattle.language_meaning.specs.declared.grid.Ratio.{Ratio}
+use Rattle.language_meaning.specs.declared.grid.GridAxis.{GridAxis}
+use Rattle.language_meaning.specs.Constraints.{is_constraint, is_weak_constraint}
+use Rattle.written_syntax.specs.ConstraintLists.{AreConstraints, AreWeakConstraints}
+use Rattle.language_meaning.specs.Statements.{CommandTree, Echo, ActionTree, Ignored, Finish, Choose, Retract, StatementTree}
+use Rattle.language_meaning.specs.Inner.{WithInner, bare, about, command_in, command_of}
+use Rattle.written_syntax.specs.StatementSyntaxWritable.{IsWritableRatio, IsWritableAxis, AreWritableNumbers, unanswered_atom, unanswered, IsFormulaBeside, IsCommandOver, IsActionOver, IsInnerOver, IsWritableAction, IsWritableNest, AreWritableNests, IsWritable}
+use Rattle.language_meaning.specs.declared.terminal.Terminal.{Terminal}
+use Rattle.language_meaning.specs.declared.terminal.Terminal.TheVariants as terminal
+use Rattle.language_meaning.specs.declared.terminal.Mark.TheVariants as mark
+use Rattle.language_meaning.specs.declared.terminal.Word.{Word}
 use Rattle.redlog_tokens.proofs.ProperTokens.{AreProperTerminals}
-use Rattle.redlog_reader.specs.declared.inner_word.InnerWord.{InnerWord}
-use Rattle.redlog_reader.specs.declared.inner_word.InnerWord.TheVariants as begins
-use Rattle.redlog_reader.specs.Grammar.{Written, product_of, sum_of, conjunction_of, disjunction_of, quantified_names, command, SpellsFactor, number, variable, inner_sum, SpellsPower, first_power, raised, SpellsProduct, product, Factors, no_factor, times, quotient, SpellsSum, sum, plus_sum, minus_sum, Members, no_member, plus, minus}
-use Rattle.redlog_reader.specs.Grammar.{IsRelation, relation_sign, relation_word, SpellsComparison, comparison, SpellsCongruence, congruent, incongruent, SpellsAtom, compared_atom, congruent_atom, Listed, last_item, more_items, Braced, empty, listed, SpellsAtoms, Names, last_name, more_names, SpellsNames, one_name, many_names}
-use Rattle.redlog_reader.specs.Grammar.{SpellsPrime, truth, falsity, named_formula, congruence, inner_formula, exists, for_all, inner_command, inner_under, SpellsNegation, negation, compared, prime, SpellsConjunction, conjunction, Conjuncts, no_conjunct, conjunct, SpellsDisjunction, disjunction, Disjuncts, no_disjunct, disjunct}
-use Rattle.redlog_reader.specs.Grammar.{SpellsImplication, no_implication, implication, SpellsReplication, replication, Repls, no_repl, repl, SpellsFormula, equivalence, Equivs, no_equiv, equiv, opposite, Above, unsigned, opposed, Below, one, divided, SpellsEntry, entry, SpellsPoint, SpellsArgument, alone, under, SpellsResult, resulting}
-use Rattle.redlog_reader.specs.Grammar.{SpellsRatio, ratio, SpellsAxis, axis, SpellsBound, bound, SpellsBounds, SpellsWeak, weak, SpellsWeaks, SpellsWholes, SpellsQuery, qea, holds, witness, grid, certify, check, least, SpellsAction, assign, result, query, choose, load, on, off, assume, retract, end, bye, quit, SpellsStatement, nothing, acting}
+use Rattle.language_meaning.specs.declared.inner_word.InnerWord.{InnerWord}
+use Rattle.language_meaning.specs.declared.inner_word.InnerWord.TheVariants as begins
+use Rattle.language_meaning.specs.Grammar.{Written, product_of, sum_of, conjunction_of, disjunction_of, quantified_names, command, SpellsFactor, number, variable, inner_sum, SpellsPower, first_power, raised, SpellsProduct, product, Factors, no_factor, times, quotient, SpellsSum, sum, plus_sum, minus_sum, Members, no_member, plus, minus, IsRelation, relation_sign, relation_word, SpellsComparison, comparison, SpellsCongruence, congruent, incongruent, SpellsAtom, compared_atom, congruent_atom, Listed, last_item, more_items, Braced, empty, listed, SpellsAtoms, Names, last_name, more_names, SpellsNames, one_name, many_names, SpellsPrime, truth, falsity, named_formula, congruence, inner_formula, exists, for_all, inner_command, inner_under, SpellsNegation, negation, compared, prime, SpellsConjunction, conjunction, Conjuncts, no_conjunct, conjunct, SpellsDisjunction, disjunction, Disjuncts, no_disjunct, disjunct, SpellsImplication, no_implication, implication, SpellsReplication, replication, Repls, no_repl, repl, SpellsFormula, equivalence, Equivs, no_equiv, equiv, opposite, Above, unsigned, opposed, Below, one, divided, SpellsEntry, entry, SpellsPoint, SpellsArgument, alone, under, SpellsResult, resulting, SpellsRatio, ratio, SpellsAxis, axis, SpellsBound, bound, SpellsBounds, SpellsWeak, weak, SpellsWeaks, SpellsWholes, SpellsQuery, qea, holds, witness, grid, certify, check, least, SpellsAction, assign, result, query, choose, load, on, off, assume, retract, end, bye, quit, SpellsStatement, nothing, acting}
 
 after_relation : {t : Terminal} {r : Relation} (ts : List Terminal) → IsRelation t r → AreProperTerminals (t ∷ ts) → AreProperTerminals ts
 after_relation ts relation_sign h = h

@@ -2,28 +2,24 @@
 use Rattle.std.proofs.Common.{◌≡◌, ℕ, ◌<◌, ◌≤◌, Bool, true, false, List, [], ◌∷◌, ◌++◌, sym, refl, ap, ◌∙◌, subst, arith, append_assoc}
 use Rattle.std.specs.Prelude.{Option, Some, None, nat_lt, nat_le, if◌then◌else◌}
 use Rattle.std.proofs.lemmas.Bool.{ltb-true, leb-true}
-use Rattle.formula_meaning.specs.Formula.{Yes, No, One}
-use Rattle.formula_meaning.specs.declared.junction.Junction.TheVariants.{Conjunction, Disjunction}
-use Rattle.formula_meaning.specs.declared.quantifier.Quantifier.TheVariants.{Exists, ForAll}
-use Rattle.qe_syntax.specs.declared.tree.Relation.{Relation}
-use Rattle.qe_syntax.specs.declared.tree.Relation.TheVariants.{Differs}
-use Rattle.qe_syntax.specs.Trees.{TermTree, Number, Power, Compare}
-use Rattle.qe_syntax.specs.Holes.{whole}
-use Rattle.redlog_tokens.specs.declared.terminal.Terminal.{Terminal}
-use Rattle.redlog_tokens.specs.declared.terminal.Terminal.TheVariants as terminal
-use Rattle.redlog_tokens.specs.declared.terminal.Mark.TheVariants as mark
-use Rattle.redlog_tokens.specs.declared.terminal.Word.{Word}
-use Rattle.redlog_tokens.specs.declared.terminal.Word.TheVariants as word
+use Rattle.logic_meaning.specs.Formula.{Yes, No, One}
+use Rattle.logic_meaning.specs.declared.junction.Junction.TheVariants.{Conjunction, Disjunction}
+use Rattle.logic_meaning.specs.declared.quantifier.Quantifier.TheVariants.{Exists, ForAll}
+use Rattle.language_meaning.specs.declared.tree.Relation.{Relation}
+use Rattle.language_meaning.specs.declared.tree.Relation.TheVariants.{Differs}
+use Rattle.language_meaning.specs.Trees.{TermTree, Number, Power, Compare}
+use Rattle.language_meaning.specs.Holes.{whole}
+use Rattle.language_meaning.specs.declared.terminal.Terminal.{Terminal}
+use Rattle.language_meaning.specs.declared.terminal.Terminal.TheVariants as terminal
+use Rattle.language_meaning.specs.declared.terminal.Mark.TheVariants as mark
+use Rattle.language_meaning.specs.declared.terminal.Word.{Word}
+use Rattle.language_meaning.specs.declared.terminal.Word.TheVariants as word
 use Rattle.redlog_reader.specs.declared.pending.Arrow.TheVariants as arrow
-use Rattle.redlog_reader.specs.Machine.{Reading, term_of, formula_of, Frame, Group, Quantified, Congruence, Negation, Compares, Added, Multiplied, Listed, Arrows, Commanded, Assumes, Relates, Call, with_atom, answered}
-use Rattle.redlog_reader.specs.Machine.{Mode, Wants, Fresh, Held, Raised, Binder, Binding, NameWanted, NameRead, Scoped, Congruent, BraceWanted, AtomWanted, AtomEnd, GivenEnd, Outcome, Fails, Stops, Moves, strength, level, takes, on_term, on_formula, folded, continued, factors, members, listed, grouped, pushed, multiplies, adds, compares, joins, implies, congruence_of, congruence_read, closed, separated, enclosed, commands, atom_begins, assumes_nothing, operated, joined, held, fresh, wanted, step, run}
-use Rattle.redlog_reader.specs.declared.inner_word.InnerWord.{InnerWord}
-use Rattle.redlog_reader.specs.Grammar as grammar
-use Rattle.redlog_reader.specs.Grammar.{Written, quantified_names, inner_word, takes_given, SpellsFactor, number, inner_sum, raised, SpellsProduct, product, Factors, times, quotient, SpellsSum, sum, plus_sum, minus_sum, Members, plus, minus}
+use Rattle.redlog_reader.specs.Machine.{Reading, term_of, formula_of, Frame, Group, Quantified, Congruence, Negation, Compares, Added, Multiplied, Listed, Arrows, Commanded, Assumes, Relates, Call, with_atom, answered, Mode, Wants, Fresh, Held, Raised, Binder, Binding, NameWanted, NameRead, Scoped, Congruent, BraceWanted, AtomWanted, AtomEnd, GivenEnd, Outcome, Fails, Stops, Moves, strength, level, takes, on_term, on_formula, folded, continued, factors, members, listed, grouped, pushed, multiplies, adds, compares, joins, implies, congruence_of, congruence_read, closed, separated, enclosed, commands, atom_begins, assumes_nothing, operated, joined, held, fresh, wanted, step, run}
+use Rattle.language_meaning.specs.declared.inner_word.InnerWord.{InnerWord}
+use Rattle.language_meaning.specs.Grammar as grammar
+use Rattle.language_meaning.specs.Grammar.{Written, quantified_names, inner_word, takes_given, SpellsFactor, number, inner_sum, raised, SpellsProduct, product, Factors, times, quotient, SpellsSum, sum, plus_sum, minus_sum, Members, plus, minus, IsRelation, relation_sign, relation_word, comparison, SpellsCongruence, congruent, incongruent, SpellsAtom, compared_atom, congruent_atom, last_item, more_items, empty, SpellsAtoms, Names, last_name, more_names, SpellsNames, one_name, many_names, SpellsPrime, truth, falsity, congruence, inner_formula, exists, for_all, inner_under, SpellsConjunction, conjunction, Conjuncts, conjunct, SpellsDisjunction, disjunction, Disjuncts, disjunct, SpellsReplication, replication, Repls, repl, SpellsFormula, equivalence, Equivs, equiv}
 use Rattle.redlog_reader.specs.QuantifierWord.{quantifier_word}
-use Rattle.redlog_reader.specs.Grammar.{IsRelation, relation_sign, relation_word, comparison, SpellsCongruence, congruent, incongruent, SpellsAtom, compared_atom, congruent_atom, last_item, more_items, empty, SpellsAtoms, Names, last_name, more_names, SpellsNames, one_name, many_names}
-use Rattle.redlog_reader.specs.Grammar.{SpellsPrime, truth, falsity, congruence, inner_formula, exists, for_all, inner_under, SpellsConjunction, conjunction, Conjuncts, conjunct, SpellsDisjunction, disjunction, Disjuncts, disjunct}
-use Rattle.redlog_reader.specs.Grammar.{SpellsReplication, replication, Repls, repl, SpellsFormula, equivalence, Equivs, equiv}
 use Rattle.redlog_reader.proofs.Steps.{strength_at, outcome}
 use Rattle.redlog_reader.proofs.SoundSteps.{TermAt, FormulaAt, term_raise, formula_raise, Said, SaidFresh, said_fresh, said_term, fresh_term, fresh_formula, fresh_name, congruence_word, Called, Assuming, Onward, yields, Begun, bottom, above, HeldAt, FoldedAt, folded_said}
 

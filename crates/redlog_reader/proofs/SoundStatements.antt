@@ -1,29 +1,27 @@
 -- Each statement that is read is spelled by the grammar.
 use Rattle.std.proofs.Common.{◌≡◌, ℕ, zero, suc, Bool, true, false, List, [], ◌∷◌, length, sym, refl, ap, ◌∙◌, subst}
 use Rattle.std.specs.Prelude.{Option, Some, None, pos, if◌then◌else◌}
-use Rattle.qe_syntax.specs.declared.tree.Literal.{Literal}
-use Rattle.qe_syntax.specs.declared.tree.Literal.TheVariants.{Fits}
-use Rattle.qe_syntax.specs.declared.tree.Relation.{Relation}
-use Rattle.qe_syntax.specs.declared.tree.Relation.TheVariants.{Equal}
-use Rattle.qe_syntax.specs.declared.entries.PointEntry.{PointEntry}
-use Rattle.statement_syntax.specs.declared.grid.Ratio.{Ratio}
-use Rattle.statement_syntax.specs.declared.grid.GridAxis.{GridAxis}
-use Rattle.statement_syntax.specs.Constraints.{is_constraint, is_weak_constraint}
-use Rattle.qe_syntax.specs.Trees.{TermTree}
-use Rattle.qe_syntax.specs.Holes.{all_of}
-use Rattle.statement_syntax.specs.Statements.{CommandTree, Holds, Sample, Grid, Certify, Check, Least, ActionTree, Ignored, Finish, Choose, Say, Retract, StatementTree}
-use Rattle.statement_syntax.specs.Inner.{WithInner, bare, around, about, about_all}
-use Rattle.redlog_reader.specs.declared.inner_word.InnerWord.{InnerWord}
-use Rattle.redlog_tokens.specs.declared.terminal.Terminal.{Terminal}
-use Rattle.redlog_tokens.specs.declared.terminal.Terminal.TheVariants as terminal
-use Rattle.redlog_tokens.specs.declared.terminal.Mark.{Mark}
-use Rattle.redlog_tokens.specs.declared.terminal.Mark.TheVariants as mark
-use Rattle.redlog_tokens.specs.declared.terminal.Word.{Word}
-use Rattle.redlog_tokens.specs.declared.terminal.Word.TheVariants as word
+use Rattle.language_meaning.specs.declared.tree.Literal.{Literal}
+use Rattle.language_meaning.specs.declared.tree.Literal.TheVariants.{Fits}
+use Rattle.language_meaning.specs.declared.tree.Relation.{Relation}
+use Rattle.language_meaning.specs.declared.tree.Relation.TheVariants.{Equal}
+use Rattle.language_meaning.specs.declared.entries.PointEntry.{PointEntry}
+use Rattle.language_meaning.specs.declared.grid.Ratio.{Ratio}
+use Rattle.language_meaning.specs.declared.grid.GridAxis.{GridAxis}
+use Rattle.language_meaning.specs.Constraints.{is_constraint, is_weak_constraint}
+use Rattle.language_meaning.specs.Trees.{TermTree}
+use Rattle.language_meaning.specs.Holes.{all_of}
+use Rattle.language_meaning.specs.Statements.{CommandTree, Holds, Sample, Grid, Certify, Check, Least, ActionTree, Ignored, Finish, Choose, Say, Retract, StatementTree}
+use Rattle.language_meaning.specs.Inner.{WithInner, bare, around, about, about_all}
+use Rattle.language_meaning.specs.declared.inner_word.InnerWord.{InnerWord}
+use Rattle.language_meaning.specs.declared.terminal.Terminal.{Terminal}
+use Rattle.language_meaning.specs.declared.terminal.Terminal.TheVariants as terminal
+use Rattle.language_meaning.specs.declared.terminal.Mark.{Mark}
+use Rattle.language_meaning.specs.declared.terminal.Mark.TheVariants as mark
+use Rattle.language_meaning.specs.declared.terminal.Word.{Word}
+use Rattle.language_meaning.specs.declared.terminal.Word.TheVariants as word
 use Rattle.redlog_reader.specs.Machine.{term_of, formula_of, Wants, run}
-use Rattle.redlog_reader.specs.Grammar.{Written, inner_word, SpellsSum, IsRelation, relation_sign, relation_word, SpellsComparison, comparison, SpellsCongruence, SpellsAtom, compared_atom, congruent_atom}
-use Rattle.redlog_reader.specs.Grammar.{SpellsPrime, truth, falsity, named_formula, congruence, inner_formula, exists, for_all, inner_command, inner_under, SpellsFormula, setting_of, IsAny, any_name, any_word, SpellsAnys, last_any, more_anys, Above, unsigned, opposed, Below, one, divided, SpellsEntry, entry, Listed, last_item, more_items, Braced, empty, listed, SpellsPoint, SpellsAtoms}
-use Rattle.redlog_reader.specs.Grammar.{SpellsArgument, alone, under, SpellsResult, resulting, SpellsRatio, ratio, SpellsAxis, axis, SpellsBound, bound, SpellsBounds, SpellsWeak, weak, SpellsWeaks, SpellsWholes, qea, holds, witness, grid, certify, check, least, SpellsAction, assign, result, query, choose, load, on, off, assume, retract, end, bye, quit, end_mark, SpellsStatement, nothing, acting}
+use Rattle.language_meaning.specs.Grammar.{Written, inner_word, SpellsSum, IsRelation, relation_sign, relation_word, SpellsComparison, comparison, SpellsCongruence, SpellsAtom, compared_atom, congruent_atom, SpellsPrime, truth, falsity, named_formula, congruence, inner_formula, exists, for_all, inner_command, inner_under, SpellsFormula, setting_of, IsAny, any_name, any_word, SpellsAnys, last_any, more_anys, Above, unsigned, opposed, Below, one, divided, SpellsEntry, entry, Listed, last_item, more_items, Braced, empty, listed, SpellsPoint, SpellsAtoms, SpellsArgument, alone, under, SpellsResult, resulting, SpellsRatio, ratio, SpellsAxis, axis, SpellsBound, bound, SpellsBounds, SpellsWeak, weak, SpellsWeaks, SpellsWholes, qea, holds, witness, grid, certify, check, least, SpellsAction, assign, result, query, choose, load, on, off, assume, retract, end, bye, quit, end_mark, SpellsStatement, nothing, acting}
 use Rattle.redlog_reader.specs.Reader.{on_some, after_mark, formula_read, sum_read, relation_of, relation_read, comparison_read, begins_congruence, atom_read, bound_read, weak_read, listed_read, items_read, braced_read, number_read, above_read, below_read, name_read, after_equal, entry_read, ratio_read, axis_read, argument_read, pointed_read, grid_read, certified_read, checked_read, least_read, result_read, is_any, anys_read, ignored_read, said, action_from, action_read, ending, statement_read}
 use Rattle.redlog_reader.specs.Reader as reader
 use Rattle.redlog_tokens.proofs.ProperTokens.{AreProperTerminals}

@@ -2,25 +2,21 @@
 use Rattle.std.proofs.Common.{◌≡◌, ℕ, zero, suc, ◌+◌, ◌≤◌, Bool, true, false, List, [], ◌∷◌, ◌++◌, sym, refl, subst, arith}
 use Rattle.std.specs.Prelude.{◌-◌, Option, Some, None, nat_lt, if◌then◌else◌}
 use Rattle.std.proofs.lemmas.Bool.{ltb-true}
-use Rattle.formula_meaning.specs.Formula.{One, Not, Impl, Repl, Equiv}
-use Rattle.formula_meaning.specs.declared.junction.Junction.TheVariants.{Conjunction, Disjunction}
-use Rattle.qe_syntax.specs.Trees.{TermTree, Named, Compare, Bound}
-use Rattle.qe_syntax.specs.Holes.{whole, over, over_both, computed}
-use Rattle.redlog_tokens.specs.declared.terminal.Terminal.{Terminal}
-use Rattle.redlog_tokens.specs.declared.terminal.Terminal.TheVariants as terminal
-use Rattle.redlog_tokens.specs.declared.terminal.Mark.TheVariants as mark
-use Rattle.redlog_tokens.specs.declared.terminal.Word.TheVariants as word
-use Rattle.redlog_tokens.specs.declared.terminal.Word.{Word}
+use Rattle.logic_meaning.specs.Formula.{One, Not, Impl, Repl, Equiv}
+use Rattle.logic_meaning.specs.declared.junction.Junction.TheVariants.{Conjunction, Disjunction}
+use Rattle.language_meaning.specs.Trees.{TermTree, Named, Compare, Bound}
+use Rattle.language_meaning.specs.Holes.{whole, over, over_both, computed}
+use Rattle.language_meaning.specs.declared.terminal.Terminal.{Terminal}
+use Rattle.language_meaning.specs.declared.terminal.Terminal.TheVariants as terminal
+use Rattle.language_meaning.specs.declared.terminal.Mark.TheVariants as mark
+use Rattle.language_meaning.specs.declared.terminal.Word.TheVariants as word
+use Rattle.language_meaning.specs.declared.terminal.Word.{Word}
 use Rattle.redlog_reader.specs.declared.pending.Arrow.TheVariants as arrow
-use Rattle.redlog_reader.specs.Machine.{Reading, Term, Formula, Bare, term_of, formula_of, Frame, Group, Quantified, Congruence, Negation, Compares, Added, Multiplied, Listed, Arrows, Commanded, Assumes, Relates, Call}
-use Rattle.redlog_reader.specs.Machine.{level, takes_last, takes, signed_term, multiplied, on_term, on_formula, ended, folded}
-use Rattle.redlog_reader.specs.declared.inner_word.InnerWord.{InnerWord}
-use Rattle.redlog_reader.specs.Grammar as grammar
-use Rattle.redlog_reader.specs.Grammar.{Written, inner_word, takes_given, command, SpellsAtom, product_of, sum_of, conjunction_of, disjunction_of, SpellsFactor, variable, SpellsPower, first_power, SpellsProduct, product, Factors, no_factor, SpellsSum, sum, Members, no_member}
+use Rattle.redlog_reader.specs.Machine.{Reading, Term, Formula, Bare, term_of, formula_of, Frame, Group, Quantified, Congruence, Negation, Compares, Added, Multiplied, Listed, Arrows, Commanded, Assumes, Relates, Call, level, takes_last, takes, signed_term, multiplied, on_term, on_formula, ended, folded}
+use Rattle.language_meaning.specs.declared.inner_word.InnerWord.{InnerWord}
+use Rattle.language_meaning.specs.Grammar as grammar
+use Rattle.language_meaning.specs.Grammar.{Written, inner_word, takes_given, command, SpellsAtom, product_of, sum_of, conjunction_of, disjunction_of, SpellsFactor, variable, SpellsPower, first_power, SpellsProduct, product, Factors, no_factor, SpellsSum, sum, Members, no_member, IsRelation, comparison, SpellsNames, SpellsPrime, named_formula, inner_command, SpellsNegation, negation, compared, prime, SpellsConjunction, conjunction, Conjuncts, no_conjunct, SpellsDisjunction, disjunction, Disjuncts, no_disjunct, SpellsImplication, no_implication, implication, SpellsReplication, replication, Repls, no_repl, SpellsFormula, equivalence, Equivs, no_equiv}
 use Rattle.redlog_reader.specs.QuantifierWord.{quantifier_word}
-use Rattle.redlog_reader.specs.Grammar.{IsRelation, comparison, SpellsNames}
-use Rattle.redlog_reader.specs.Grammar.{SpellsPrime, named_formula, inner_command, SpellsNegation, negation, compared, prime, SpellsConjunction, conjunction, Conjuncts, no_conjunct, SpellsDisjunction, disjunction, Disjuncts, no_disjunct}
-use Rattle.redlog_reader.specs.Grammar.{SpellsImplication, no_implication, implication, SpellsReplication, replication, Repls, no_repl, SpellsFormula, equivalence, Equivs, no_equiv}
 
 -- a term that binds at most so loosely
 abbrev pub TermAt : ℕ → List Terminal → TermTree → List Terminal → Type 0

@@ -2,15 +2,14 @@
 use Rattle.std.proofs.Common.{◌≡◌, ℕ, ◌<◌, ◌≤◌, List, [], ◌∷◌, refl, ap, ◌∙◌, arith}
 use Rattle.std.specs.Prelude.{Option, Some, None, if◌then◌else◌}
 use Rattle.std.proofs.lemmas.Bool.{lt-ltb, le-ltb, le-leb}
-use Rattle.formula_meaning.specs.declared.junction.Junction.TheVariants.{Conjunction, Disjunction}
-use Rattle.qe_syntax.specs.Trees.{TermTree}
-use Rattle.redlog_tokens.specs.declared.terminal.Terminal.{Terminal}
-use Rattle.redlog_tokens.specs.declared.terminal.Terminal.TheVariants as terminal
-use Rattle.redlog_tokens.specs.declared.terminal.Mark.TheVariants as mark
+use Rattle.logic_meaning.specs.declared.junction.Junction.TheVariants.{Conjunction, Disjunction}
+use Rattle.language_meaning.specs.Trees.{TermTree}
+use Rattle.language_meaning.specs.declared.terminal.Terminal.{Terminal}
+use Rattle.language_meaning.specs.declared.terminal.Terminal.TheVariants as terminal
+use Rattle.language_meaning.specs.declared.terminal.Mark.TheVariants as mark
 use Rattle.redlog_reader.specs.declared.pending.Arrow.TheVariants as arrow
-use Rattle.redlog_reader.specs.Grammar.{Written}
-use Rattle.redlog_reader.specs.Machine.{Reading, term_of, formula_of, Frame, Group, Quantified, Congruence, Negation, Compares, Added, Multiplied, Listed, Arrows, Commanded, Assumes, Relates}
-use Rattle.redlog_reader.specs.Machine.{Mode, Wants, Fresh, Held, Outcome, Fails, Stops, Moves, strength, level, takes_last, takes, on_term, on_formula, ended, folded, continued, pushed, operated, joined, held, step, run}
+use Rattle.language_meaning.specs.Grammar.{Written}
+use Rattle.redlog_reader.specs.Machine.{Reading, term_of, formula_of, Frame, Group, Quantified, Congruence, Negation, Compares, Added, Multiplied, Listed, Arrows, Commanded, Assumes, Relates, Mode, Wants, Fresh, Held, Outcome, Fails, Stops, Moves, strength, level, takes_last, takes, on_term, on_formula, ended, folded, continued, pushed, operated, joined, held, step, run}
 
 -- how loosely what comes next binds
 abbrev pub strength_at : List Terminal → ℕ

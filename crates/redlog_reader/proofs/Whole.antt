@@ -1,23 +1,23 @@
 -- Reading a statement.
 use Rattle.std.proofs.Common.{◌≡◌, ◌≢◌, ℕ, ◌≤◌, arith, List, [], map, length, sym, refl, ap, ◌∙◌, subst}
 use Rattle.std.specs.Prelude.{Option, Some, None}
-use Rattle.statement_syntax.specs.Statements.{StatementTree}
+use Rattle.language_meaning.specs.Statements.{StatementTree}
 use Rattle.redlog_tokens.specs.declared.token.Token.{Token}
-use Rattle.redlog_tokens.specs.declared.token.TokenKind.{TokenKind}
-use Rattle.redlog_tokens.specs.Terminals.{terminal_of}
+use Rattle.language_meaning.specs.declared.token.TokenKind.{TokenKind}
+use Rattle.language_meaning.specs.Terminals.{terminal_of}
 use Rattle.redlog_tokens.specs.TerminalList.{terminals}
-use Rattle.redlog_tokens.specs.Lexing.{IsLexical}
+use Rattle.language_meaning.specs.Lexing.{IsLexical}
 use Rattle.redlog_tokens.specs.Longest.{lexeme_of, AreTokens, LexicalWhere}
-use Rattle.redlog_tokens.specs.Levels.{Passes}
-use Rattle.redlog_reader.specs.Grammar.{SpellsStatement}
+use Rattle.language_meaning.specs.Levels.{Passes}
+use Rattle.language_meaning.specs.Grammar.{SpellsStatement}
 use Rattle.redlog_reader.specs.Reading.{Refuses}
 use Rattle.redlog_reader.specs.Reader.{statement_read}
-use Rattle.redlog_reader.specs.Statement.{AreKinds, Spells, IsDeep, SpellsNothing, Unread}
-use Rattle.redlog_reader.specs.declared.read.TheConstants.{BYTE_LIMIT}
-use Rattle.redlog_tokens.specs.declared.level.TheConstants.{LEVEL_LIMIT}
-use Rattle.redlog_tokens.specs.declared.token.ReadError.{ReadError}
-use Rattle.redlog_tokens.specs.declared.token.ReadError.TheVariants as cause
-use Rattle.statement_syntax.specs.Writable.{IsWritable}
+use Rattle.language_meaning.specs.Statement.{AreKinds, Spells, IsDeep, SpellsNothing, Unread}
+use Rattle.language_meaning.specs.declared.limit.TheConstants.{BYTE_LIMIT}
+use Rattle.language_meaning.specs.declared.level.TheConstants.{LEVEL_LIMIT}
+use Rattle.language_meaning.specs.declared.token.ReadError.{ReadError}
+use Rattle.language_meaning.specs.declared.token.ReadError.TheVariants as cause
+use Rattle.written_syntax.specs.StatementSyntaxWritable.{IsWritable}
 use Rattle.redlog_reader.proofs.CompleteStatements.{statement_done}
 use Rattle.redlog_reader.proofs.SoundStatements.{statement_sound}
 use Rattle.redlog_reader.proofs.Proper.{proper_statement}

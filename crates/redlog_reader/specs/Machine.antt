@@ -1,23 +1,23 @@
 -- How terms and formulas are read: terminal by terminal, with a stack of what has begun and waits for its last part.
 -- It is a function, so what it reads is determined.
 use Rattle.std.specs.Prelude.{ℕ, Bool, true, false, List, [], ◌∷◌, ◌++◌, Option, Some, None, nat_lt, nat_le, if◌then◌else◌}
-use Rattle.formula_meaning.specs.Formula.{Yes, No, One, Not, Impl, Repl, Equiv}
-use Rattle.formula_meaning.specs.declared.junction.Junction.{Junction}
-use Rattle.formula_meaning.specs.declared.junction.Junction.TheVariants.{Conjunction, Disjunction}
-use Rattle.formula_meaning.specs.declared.quantifier.Quantifier.{Quantifier}
-use Rattle.formula_meaning.specs.declared.quantifier.Quantifier.TheVariants.{Exists, ForAll}
-use Rattle.qe_syntax.specs.declared.tree.Relation.{Relation}
-use Rattle.qe_syntax.specs.declared.tree.Relation.TheVariants.{Differs}
-use Rattle.qe_syntax.specs.Trees.{TermTree, Number, Named, Quotient, Power, Negative, Compare, Cong, Ncong, Bound}
-use Rattle.qe_syntax.specs.Holes.{whole, over, over_both, computed}
-use Rattle.redlog_tokens.specs.declared.terminal.Terminal.{Terminal}
-use Rattle.redlog_tokens.specs.declared.terminal.Terminal.TheVariants as terminal
-use Rattle.redlog_tokens.specs.declared.terminal.Mark.TheVariants as mark
-use Rattle.redlog_tokens.specs.declared.terminal.Word.TheVariants as word
+use Rattle.logic_meaning.specs.Formula.{Yes, No, One, Not, Impl, Repl, Equiv}
+use Rattle.logic_meaning.specs.declared.junction.Junction.{Junction}
+use Rattle.logic_meaning.specs.declared.junction.Junction.TheVariants.{Conjunction, Disjunction}
+use Rattle.logic_meaning.specs.declared.quantifier.Quantifier.{Quantifier}
+use Rattle.logic_meaning.specs.declared.quantifier.Quantifier.TheVariants.{Exists, ForAll}
+use Rattle.language_meaning.specs.declared.tree.Relation.{Relation}
+use Rattle.language_meaning.specs.declared.tree.Relation.TheVariants.{Differs}
+use Rattle.language_meaning.specs.Trees.{TermTree, Number, Named, Quotient, Power, Negative, Compare, Cong, Ncong, Bound}
+use Rattle.language_meaning.specs.Holes.{whole, over, over_both, computed}
+use Rattle.language_meaning.specs.declared.terminal.Terminal.{Terminal}
+use Rattle.language_meaning.specs.declared.terminal.Terminal.TheVariants as terminal
+use Rattle.language_meaning.specs.declared.terminal.Mark.TheVariants as mark
+use Rattle.language_meaning.specs.declared.terminal.Word.TheVariants as word
 use Rattle.redlog_reader.specs.declared.pending.Arrow.{Arrow}
 use Rattle.redlog_reader.specs.declared.pending.Arrow.TheVariants as arrow
-use Rattle.redlog_reader.specs.declared.inner_word.InnerWord.{InnerWord}
-use Rattle.redlog_reader.specs.Grammar.{Written, product_of, sum_of, conjunction_of, disjunction_of, quantified_names, inner_word, takes_given, command}
+use Rattle.language_meaning.specs.declared.inner_word.InnerWord.{InnerWord}
+use Rattle.language_meaning.specs.Grammar.{Written, product_of, sum_of, conjunction_of, disjunction_of, quantified_names, inner_word, takes_given, command}
 
 -- What has been read. A name alone, in brackets or not, is a term and a formula.
 pub data Reading : Type 0 where

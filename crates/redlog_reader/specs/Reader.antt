@@ -1,29 +1,29 @@
 -- How a statement is read around its terms and formulas. These are functions, so what they read is determined.
 use Rattle.std.specs.Prelude.{◌==◌, ℕ, zero, suc, Bool, true, false, List, [], ◌∷◌, length, Option, Some, None, if◌then◌else◌, pos, negsuc, neg_ℤ, ◌^◌, ◌-◌}
 use Rattle.std.specs.Ordering.{int_eq}
-use Rattle.formula_meaning.specs.Formula.{One}
-use Rattle.qe_syntax.specs.declared.tree.Literal.{Literal}
-use Rattle.qe_syntax.specs.declared.tree.Literal.TheVariants.{Fits, Past}
-use Rattle.qe_syntax.specs.declared.tree.Relation.{Relation}
-use Rattle.qe_syntax.specs.declared.tree.Relation.TheVariants.{Equal, Differs}
-use Rattle.qe_syntax.specs.declared.entries.PointEntry.{PointEntry}
-use Rattle.statement_syntax.specs.declared.grid.Ratio.{Ratio}
-use Rattle.statement_syntax.specs.declared.grid.GridAxis.{GridAxis}
-use Rattle.statement_syntax.specs.Constraints.{is_constraint, is_weak_constraint}
-use Rattle.qe_syntax.specs.Trees.{TermTree, Compare}
-use Rattle.qe_syntax.specs.Holes.{whole, all_of}
-use Rattle.qe_syntax.specs.Holes as inside
-use Rattle.statement_syntax.specs.Statements.{CommandTree, Qea, Holds, Sample, Grid, Certify, Check, Least, ActionTree, Empty, Ignored, Finish, Choose, Say, Assign, Assume, Retract, StatementTree}
-use Rattle.statement_syntax.specs.Inner.{WithInner, bare, around, about, about_all, about_under}
-use Rattle.redlog_tokens.specs.declared.terminal.Terminal.{Terminal}
-use Rattle.redlog_tokens.specs.declared.terminal.Terminal.TheVariants as terminal
-use Rattle.redlog_tokens.specs.declared.terminal.Mark.{Mark}
-use Rattle.redlog_tokens.specs.declared.terminal.Mark.TheVariants as mark
-use Rattle.redlog_tokens.specs.declared.terminal.Word.{Word}
-use Rattle.redlog_tokens.specs.declared.terminal.Word.TheVariants as word
+use Rattle.logic_meaning.specs.Formula.{One}
+use Rattle.language_meaning.specs.declared.tree.Literal.{Literal}
+use Rattle.language_meaning.specs.declared.tree.Literal.TheVariants.{Fits, Past}
+use Rattle.language_meaning.specs.declared.tree.Relation.{Relation}
+use Rattle.language_meaning.specs.declared.tree.Relation.TheVariants.{Equal, Differs}
+use Rattle.language_meaning.specs.declared.entries.PointEntry.{PointEntry}
+use Rattle.language_meaning.specs.declared.grid.Ratio.{Ratio}
+use Rattle.language_meaning.specs.declared.grid.GridAxis.{GridAxis}
+use Rattle.language_meaning.specs.Constraints.{is_constraint, is_weak_constraint}
+use Rattle.language_meaning.specs.Trees.{TermTree, Compare}
+use Rattle.language_meaning.specs.Holes.{whole, all_of}
+use Rattle.language_meaning.specs.Holes as inside
+use Rattle.language_meaning.specs.Statements.{CommandTree, Qea, Holds, Sample, Grid, Certify, Check, Least, ActionTree, Empty, Ignored, Finish, Choose, Say, Assign, Assume, Retract, StatementTree}
+use Rattle.language_meaning.specs.Inner.{WithInner, bare, around, about, about_all, about_under}
+use Rattle.language_meaning.specs.declared.terminal.Terminal.{Terminal}
+use Rattle.language_meaning.specs.declared.terminal.Terminal.TheVariants as terminal
+use Rattle.language_meaning.specs.declared.terminal.Mark.{Mark}
+use Rattle.language_meaning.specs.declared.terminal.Mark.TheVariants as mark
+use Rattle.language_meaning.specs.declared.terminal.Word.{Word}
+use Rattle.language_meaning.specs.declared.terminal.Word.TheVariants as word
 use Rattle.redlog_reader.specs.declared.argument.AtomKind.{AtomKind}
 use Rattle.redlog_reader.specs.declared.argument.AtomKind.TheVariants as kind
-use Rattle.redlog_reader.specs.Grammar.{Written, setting_of, result_of}
+use Rattle.language_meaning.specs.Grammar.{Written, setting_of, result_of}
 use Rattle.redlog_reader.specs.Machine.{term_of, formula_of, Wants, run}
 
 -- what follows from a value, or from none

@@ -1,6 +1,6 @@
 -- What the readers of the parts of a statement promise each other.
-use Rattle.redlog_tokens.specs.declared.token.ReadError.{ReadError}
-use Rattle.redlog_tokens.specs.declared.token.ReadError.TheVariants as cause
+use Rattle.language_meaning.specs.declared.token.ReadError.{ReadError}
+use Rattle.language_meaning.specs.declared.token.ReadError.TheVariants as cause
 
 -- a reader ends in Syntax where this holds, or for want of memory
 abbrev pub Refuses : ReadError → Type 0 → Type 0

@@ -1,9 +1,9 @@
 -- What the values of the code stand for, while terms and formulas are read.
 use Rattle.std.specs.Prelude.{List, [], ◌∷◌, map, reverse}
-use Rattle.qe_syntax.specs.Trees.{TermTree}
-use Rattle.qe_syntax.specs.CodeTrees.{term_tree, whole_formula}
-use Rattle.qe_syntax.specs.declared.tree.Term as written
-use Rattle.qe_syntax.specs.declared.tree.Term.TheVariants as term
+use Rattle.language_meaning.specs.Trees.{TermTree}
+use Rattle.written_syntax.specs.CodeTrees.{term_tree, whole_formula}
+use Rattle.written_syntax.specs.declared.tree.Term as written
+use Rattle.written_syntax.specs.declared.tree.Term.TheVariants as term
 use Rattle.redlog_reader.specs.declared.operand.Operand as operands
 use Rattle.redlog_reader.specs.declared.operand.Operand.TheVariants as operand
 use Rattle.redlog_reader.specs.declared.pending.Pending as begins

@@ -1,6 +1,6 @@
 ghost use Rattle.std.specs.Prelude.{◌≡◌, map, IfOk, IfErr, Some, None};
-ghost use Rattle.qe_syntax.specs.CodeTrees.{term_tree, whole_formula};
-ghost use Rattle.statement_syntax.specs.Constraints.{is_constraint, is_weak_constraint};
+ghost use Rattle.written_syntax.specs.CodeTrees.{term_tree, whole_formula};
+ghost use Rattle.language_meaning.specs.Constraints.{is_constraint, is_weak_constraint};
 ghost use Rattle.redlog_reader.specs.Reader.{formula_read, sum_read, comparison_read, begins_congruence, atom_read, bound_read, weak_read, kind_read, items_read, braced_read, argument_read};
 ghost use Rattle.redlog_reader.specs.Reading.{Refuses};
 
@@ -8,9 +8,9 @@ use crate::ending::put;
 use crate::machine::read;
 use crate::operand::{formula_of, term_of};
 use crate::peek::{after, next, relation};
-use qe_syntax::{Formula, Relation, Term, comparison as comparison_of};
-use redlog_tokens::{Mark, ReadError, Terminal, Word};
+use language_meaning::{Mark, ReadError, Relation, Terminal, Word};
 use std::alloc::Global;
+use written_syntax::{Formula, Term, comparison as comparison_of};
 
 /// What may stand in a list of atoms.
 #[derive(Clone, Copy, Debug, PartialEq, Eq)]
@@ -114,7 +114,7 @@ fn constraint(alloc: Global, tokens: &[Terminal]) -> Result<(Formula, &[Terminal
 }
 
 /// Whether a formula is a comparison, but for `<>`.
-#[tactic(auto, using(qe_syntax::proofs::TreeEquations::trees, qe_syntax::proofs::TreeEquations::wholes))]
+#[tactic(auto, using(written_syntax::proofs::TreeEquations::trees, written_syntax::proofs::TreeEquations::wholes))]
 fn is_constraint(formula: &Formula) -> bool
     ensures { result ≡ is_constraint (whole_formula formula.now).tree }
 {
@@ -138,7 +138,7 @@ fn weak(alloc: Global, tokens: &[Terminal]) -> Result<(Formula, &[Terminal]), Re
 }
 
 /// Whether a formula is a comparison by `=`, `<=` or `>=`.
-#[tactic(auto, using(qe_syntax::proofs::TreeEquations::trees, qe_syntax::proofs::TreeEquations::wholes))]
+#[tactic(auto, using(written_syntax::proofs::TreeEquations::trees, written_syntax::proofs::TreeEquations::wholes))]
 fn is_weak(formula: &Formula) -> bool
     ensures { result ≡ is_weak_constraint (whole_formula formula.now).tree }
 {

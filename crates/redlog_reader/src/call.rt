@@ -1,22 +1,21 @@
 //! Commands inside formulas: their words, and what they may assume.
 
 ghost use Rattle.std.specs.Prelude.{◌≡◌, ◌∷◌, [], List, map, IfOk, IfErr};
-ghost use Rattle.qe_syntax.specs.Trees.{Compare};
-ghost use Rattle.qe_syntax.specs.Holes.{computed};
-ghost use Rattle.qe_syntax.specs.CodeTrees.{term_tree, whole_formula, whole_command};
-ghost use Rattle.redlog_reader.specs.Grammar.{inner_word, takes_given, command};
+ghost use Rattle.language_meaning.specs.Trees.{Compare};
+ghost use Rattle.language_meaning.specs.Holes.{computed};
+ghost use Rattle.written_syntax.specs.CodeTrees.{term_tree, whole_formula, whole_command};
+ghost use Rattle.language_meaning.specs.Grammar.{inner_word, takes_given, command};
 ghost use Rattle.redlog_reader.specs.Machine.{Frame, Group, Relates, AtomWanted, GivenEnd, Moves, Fails, with_atom, answered, separated, enclosed, congruence_read, commands, braced, atom_begins, atom_ends, given_ends};
 ghost use Rattle.redlog_reader.specs.Reading.{Refuses};
 ghost use Rattle.redlog_reader.specs.View.{reading_of, call_of, frames, outcome_of};
 
 use crate::ending::put;
-use crate::inner_word::InnerWord;
 use crate::machine::{begin, put_pending};
 use crate::operand::{Operand, formula_of, formula_operand, term_of};
 use crate::pending::{Call, Expects, Pending, Step};
-use qe_syntax::{Formula, Formulas, InnerCommand, Relation, Term, answered};
-use redlog_tokens::{Mark, ReadError, Terminal, Word};
+use language_meaning::{InnerWord, Mark, ReadError, Relation, Terminal, Word};
 use std::alloc::{AllocError, Global};
+use written_syntax::{Formula, Formulas, InnerCommand, Term, answered};
 
 /// Which word begins a command that may stand inside a formula.
 fn inner_word(word: Word) -> Option<InnerWord>
@@ -168,7 +167,7 @@ pub fn given_end(
 }
 
 /// The formula that a command of this word is.
-#[tactic(auto, using(qe_syntax::proofs::TreeEquations::wholes))]
+#[tactic(auto, using(written_syntax::proofs::TreeEquations::wholes))]
 pub fn computed_by(
     alloc: Global,
     word: InnerWord,
@@ -181,7 +180,7 @@ pub fn computed_by(
 }
 
 /// The command of this word.
-#[tactic(auto, using(qe_syntax::proofs::TreeEquations::wholes))]
+#[tactic(auto, using(written_syntax::proofs::TreeEquations::wholes))]
 fn command_by(word: InnerWord, formula: Formula, atoms: Vec<Formula>) -> InnerCommand
     ensures { whole_command result ≡ command word (whole_formula formula) (map whole_formula atoms.items) }
 {
@@ -211,7 +210,7 @@ pub fn enclose(pending: &mut Vec<Pending>, operand: Operand) -> Result<Step, Rea
 }
 
 /// What a command may assume, with the comparison that ends here.
-#[tactic(auto, using(crate::proofs::Frames::steps, qe_syntax::proofs::TreeEquations::wholes))]
+#[tactic(auto, using(crate::proofs::Frames::steps, written_syntax::proofs::TreeEquations::wholes))]
 pub fn end_comparison(
     call: Box<Call>,
     relation: Relation,

@@ -1,15 +1,14 @@
 ghost use Rattle.std.specs.Prelude.{◌≡◌, map, IfOk, IfErr, Some, None};
-ghost use Rattle.qe_syntax.specs.CodeTrees.{term_tree, whole_formula};
+ghost use Rattle.written_syntax.specs.CodeTrees.{term_tree, whole_formula};
 ghost use Rattle.redlog_reader.specs.Reader.{above_read, items_read, braced_read, certified_read, checked_read, least_read};
 ghost use Rattle.redlog_reader.specs.Reading.{Refuses};
 
 use crate::argument::{AtomKind, atoms, sum};
 use crate::peek::after;
 use crate::point::above;
-use qe_syntax::{Formula, Literal, Term};
-use redlog_tokens::{Mark, ReadError, Terminal};
-use statement_syntax::Literals;
+use language_meaning::{Literal, Mark, ReadError, Terminal};
 use std::alloc::Global;
+use written_syntax::{Formula, Literals, Term};
 
 /// Constraints in brackets.
 #[tactic(auto, using(crate::proofs::Options::options))]

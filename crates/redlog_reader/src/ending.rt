@@ -1,21 +1,19 @@
 ghost use Rattle.std.specs.Prelude.{◌≡◌, [], ◌∷◌, ◌++◌, map, IfOk, IfErr, OnOk};
-ghost use Rattle.qe_syntax.specs.CodeTrees.{term_tree, whole_formula};
-ghost use Rattle.redlog_reader.specs.Grammar.{sum_of, product_of};
+ghost use Rattle.written_syntax.specs.CodeTrees.{term_tree, whole_formula};
+ghost use Rattle.language_meaning.specs.Grammar.{sum_of, product_of};
 ghost use Rattle.redlog_reader.specs.Machine.{Negation, Compares, Added, Multiplied, Listed, Arrows, Commanded, signed_term, multiplied, list_of, arrow_of, ended};
 ghost use Rattle.redlog_reader.specs.Reading.{Refuses};
 ghost use Rattle.redlog_reader.specs.View.{reading_of, frame_of};
 
 use crate::call::computed_by;
-use crate::inner_word::InnerWord;
 use crate::operand::{Operand, formula_of, formula_operand, term_of, term_operand};
 use crate::pending::{Arrow, Pending};
-use formula_meaning::Junction;
-use qe_syntax::{
-    Formula, Formulas, Relation, Term, Terms, equivalence, implication, negation, quotient,
-    replication,
-};
-use redlog_tokens::ReadError;
+use language_meaning::{InnerWord, ReadError, Relation};
+use logic_meaning::Junction;
 use std::alloc::{AllocError, Global};
+use written_syntax::{
+    Formula, Formulas, Term, Terms, equivalence, implication, negation, quotient, replication,
+};
 
 /// What has begun, with the operand as its last part.
 pub fn ended(alloc: Global, pending: Pending, operand: Operand) -> Result<Operand, ReadError>
@@ -46,7 +44,7 @@ fn negated(alloc: Global, operand: Operand) -> Result<Operand, ReadError>
     formula_operand(alloc, negated)
 }
 
-#[tactic(auto, using(crate::proofs::Steps::choices, qe_syntax::proofs::TreeEquations::trees, qe_syntax::proofs::TreeEquations::wholes))]
+#[tactic(auto, using(crate::proofs::Steps::choices, written_syntax::proofs::TreeEquations::trees, written_syntax::proofs::TreeEquations::wholes))]
 fn compared(
     alloc: Global,
     relation: Relation,
@@ -88,7 +86,7 @@ pub fn added(minus: bool, mut members: Vec<Term>, term: Box<Term>) -> Result<Vec
 }
 
 /// The term, which may get the sign `-`.
-#[tactic(auto, using(qe_syntax::proofs::TreeEquations::trees, qe_syntax::proofs::TreeEquations::wholes))]
+#[tactic(auto, using(written_syntax::proofs::TreeEquations::trees, written_syntax::proofs::TreeEquations::wholes))]
 fn signed(minus: bool, term: Box<Term>) -> Term
     ensures { term_tree result ≡ signed_term minus (term_tree term.value) }
 {
@@ -100,7 +98,7 @@ fn signed(minus: bool, term: Box<Term>) -> Term
 }
 
 /// The sum of the members, or the member where there is one alone.
-#[tactic(auto, using(qe_syntax::proofs::TreeEquations::trees, qe_syntax::proofs::TreeEquations::wholes))]
+#[tactic(auto, using(written_syntax::proofs::TreeEquations::trees, written_syntax::proofs::TreeEquations::wholes))]
 fn sum_of(mut members: Vec<Term>) -> Term
     ensures { term_tree result ≡ sum_of (map term_tree members.items) }
 {
@@ -149,7 +147,7 @@ pub fn multiplied(
 }
 
 /// The product of the factors, or the factor where there is one alone.
-#[tactic(auto, using(qe_syntax::proofs::TreeEquations::trees, qe_syntax::proofs::TreeEquations::wholes))]
+#[tactic(auto, using(written_syntax::proofs::TreeEquations::trees, written_syntax::proofs::TreeEquations::wholes))]
 fn product_of(mut factors: Vec<Term>) -> Term
     ensures { term_tree result ≡ product_of (map term_tree factors.items) }
 {
@@ -186,7 +184,7 @@ pub fn put(members: &mut Vec<Formula>, formula: Formula) -> Result<(), AllocErro
 }
 
 /// The conjunction or disjunction of the members, or the member where there is one alone.
-#[tactic(auto, using(qe_syntax::proofs::TreeEquations::trees, qe_syntax::proofs::TreeEquations::wholes))]
+#[tactic(auto, using(written_syntax::proofs::TreeEquations::trees, written_syntax::proofs::TreeEquations::wholes))]
 fn list_of(junction: Junction, mut members: Vec<Formula>) -> Formula
     ensures { whole_formula result ≡ list_of junction (map whole_formula members.items) }
 {

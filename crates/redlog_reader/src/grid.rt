@@ -1,15 +1,14 @@
 ghost use Rattle.std.specs.Prelude.{◌≡◌, IfOk, IfErr, MatchOption, Some, None};
-ghost use Rattle.qe_syntax.specs.CodeTrees.{whole_formula};
+ghost use Rattle.written_syntax.specs.CodeTrees.{whole_formula};
 ghost use Rattle.redlog_reader.specs.Reader.{items_read, ratio_read, axis_read, grid_read};
 ghost use Rattle.redlog_reader.specs.Reading.{Refuses};
 
 use crate::argument::{FORMULA, formula};
 use crate::peek::{after, name};
 use crate::point::{above, below};
-use qe_syntax::Formula;
-use redlog_tokens::{Mark, ReadError, Terminal};
-use statement_syntax::{GridAxes, GridAxis, Ratio};
+use language_meaning::{GridAxis, Mark, Ratio, ReadError, Terminal};
 use std::alloc::Global;
+use written_syntax::{Formula, GridAxes};
 
 /// A formula and axes in brackets.
 #[tactic(auto, using(crate::proofs::Options::options))]

@@ -6,7 +6,6 @@ mod call;
 mod constraints;
 mod ending;
 mod grid;
-mod inner_word;
 mod machine;
 mod operand;
 mod peek;
@@ -17,7 +16,3 @@ mod setting;
 mod statement;
 
 pub use read::{one_statement, read_statement};
-pub use redlog_tokens::{
-    Piece, ReadError, Token, TokenKind, Tokens, longest_tokens, next_piece, one_piece, terminals,
-    tokens,
-};

@@ -1,10 +1,10 @@
 ghost use Rattle.std.specs.Prelude.{◌≡◌, Bool, List, [], ◌∷◌, ◌++◌, map, IfOk, IfErr, OnOk};
-ghost use Rattle.formula_meaning.specs.Shape.{quantified};
-ghost use Rattle.qe_syntax.specs.CodeTrees.{term_tree, whole_formula};
-ghost use Rattle.qe_syntax.specs.Holes.{over};
-ghost use Rattle.redlog_tokens.specs.declared.terminal.Terminal.{Terminal};
+ghost use Rattle.logic_meaning.specs.Shape.{quantified};
+ghost use Rattle.written_syntax.specs.CodeTrees.{term_tree, whole_formula};
+ghost use Rattle.language_meaning.specs.Holes.{over};
+ghost use Rattle.language_meaning.specs.declared.terminal.Terminal.{Terminal};
 ghost use Rattle.redlog_reader.specs.Machine.{Frame, Quantified, Congruence, Wants, Fresh, Moves, Fails, raised_to, binds, first_bound, next_bound, after_bound, scoped, opens, strength, Added, takes, folded, factors, members, listed, grouped, pushed, multiplies, adds, compares, joins, implies, congruence_of, congruence_read, closed, separated, operated, joined, held, fresh, wanted, step, run};
-ghost use Rattle.redlog_reader.specs.Grammar.{quantified_names};
+ghost use Rattle.language_meaning.specs.Grammar.{quantified_names};
 ghost use Rattle.redlog_reader.specs.Machine as reading;
 ghost use Rattle.redlog_reader.specs.Reading.{Refuses};
 ghost use Rattle.redlog_reader.specs.View.{reading_of, arguments_of, frame_of, frames, mode_of, outcome_of};
@@ -16,10 +16,10 @@ use crate::call::{
 use crate::ending::{added, ended, multiplied, put};
 use crate::operand::{Operand, formula_of, formula_operand, name_operand, term_of, term_operand};
 use crate::pending::{Arguments, Arrow, Expects, Pending, Step, level, takes_last};
-use formula_meaning::{Junction, Quantifier};
-use qe_syntax::{Formula, Name, Relation, Term, equivalence, existential, replication, universal};
-use redlog_tokens::{Mark, ReadError, Terminal, Word};
+use language_meaning::{Mark, ReadError, Relation, Terminal, Word};
+use logic_meaning::{Junction, Name, Quantifier};
 use std::alloc::{AllocError, Global};
+use written_syntax::{Formula, Term, equivalence, existential, replication, universal};
 
 /// What is read at the front of the tokens, and the tokens after it: as much as binds at most as loosely as the goal,
 /// where 0 is a prime formula, 2 a sum and 8 a formula.
@@ -74,7 +74,7 @@ fn step(
 }
 
 /// The first terminal of an operand.
-#[tactic(auto, using(crate::proofs::Frames::steps, qe_syntax::proofs::TreeEquations::trees, qe_syntax::proofs::TreeEquations::wholes))]
+#[tactic(auto, using(crate::proofs::Frames::steps, written_syntax::proofs::TreeEquations::trees, written_syntax::proofs::TreeEquations::wholes))]
 pub fn begin(
     alloc: Global,
     goal: usize,
@@ -119,7 +119,7 @@ fn sign(
 }
 
 /// The first word of an operand.
-#[tactic(auto, using(crate::proofs::Frames::steps, qe_syntax::proofs::TreeEquations::trees, qe_syntax::proofs::TreeEquations::wholes))]
+#[tactic(auto, using(crate::proofs::Frames::steps, written_syntax::proofs::TreeEquations::trees, written_syntax::proofs::TreeEquations::wholes))]
 fn begin_with(
     alloc: Global,
     goal: usize,
@@ -174,7 +174,7 @@ fn raise(
 }
 
 /// The exponent of a power.
-#[tactic(auto, using(crate::proofs::Frames::steps, qe_syntax::proofs::TreeEquations::trees, qe_syntax::proofs::TreeEquations::wholes))]
+#[tactic(auto, using(crate::proofs::Frames::steps, written_syntax::proofs::TreeEquations::trees, written_syntax::proofs::TreeEquations::wholes))]
 fn exponent(
     alloc: Global,
     pending: &mut Vec<Pending>,
@@ -744,7 +744,7 @@ fn bound(
 }
 
 /// The congruence of two terms modulo a third, or its negation.
-#[tactic(auto, using(qe_syntax::proofs::TreeEquations::trees, qe_syntax::proofs::TreeEquations::wholes))]
+#[tactic(auto, using(written_syntax::proofs::TreeEquations::trees, written_syntax::proofs::TreeEquations::wholes))]
 fn congruence_of(positive: bool, left: Box<Term>, right: Box<Term>, modulus: Box<Term>) -> Formula
     ensures { whole_formula result ≡ congruence_of positive (term_tree left.value) (term_tree right.value) (term_tree modulus.value) }
 {

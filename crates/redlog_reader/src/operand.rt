@@ -1,12 +1,13 @@
 ghost use Rattle.std.specs.Prelude.{◌≡◌, Some, None, MatchOption, IfOk, IfErr};
-ghost use Rattle.qe_syntax.specs.CodeTrees.{term_tree, whole_formula};
+ghost use Rattle.written_syntax.specs.CodeTrees.{term_tree, whole_formula};
 ghost use Rattle.redlog_reader.specs.Machine.{term_of, formula_of};
 ghost use Rattle.redlog_reader.specs.Machine as Reading;
 ghost use Rattle.redlog_reader.specs.View.{reading_of, named_reading};
 
-use qe_syntax::{Formula, Name, Term};
-use redlog_tokens::ReadError;
+use language_meaning::ReadError;
+use logic_meaning::Name;
 use std::alloc::Global;
+use written_syntax::{Formula, Term};
 
 /// What has been read, each in a box, so that steps move few bytes. A name alone, in brackets or not, is a term and a formula; it
 /// is kept as a term.
@@ -18,7 +19,7 @@ pub enum Operand {
 }
 
 /// The term that was read.
-#[tactic(auto, using(qe_syntax::proofs::TreeEquations::trees, qe_syntax::proofs::TreeEquations::wholes))]
+#[tactic(auto, using(written_syntax::proofs::TreeEquations::trees, written_syntax::proofs::TreeEquations::wholes))]
 pub fn term_of(operand: Operand) -> Option<Box<Term>>
     ensures { MatchOption result (term_of (reading_of operand) ≡ None) (λ t. term_of (reading_of operand) ≡ Some (term_tree t.value)) }
 {
@@ -29,7 +30,7 @@ pub fn term_of(operand: Operand) -> Option<Box<Term>>
 }
 
 /// The formula that was read.
-#[tactic(auto, using(qe_syntax::proofs::TreeEquations::trees, qe_syntax::proofs::TreeEquations::wholes))]
+#[tactic(auto, using(written_syntax::proofs::TreeEquations::trees, written_syntax::proofs::TreeEquations::wholes))]
 pub fn formula_of(operand: Operand) -> Option<Formula>
     ensures { MatchOption result (formula_of (reading_of operand) ≡ None) (λ f. formula_of (reading_of operand) ≡ Some (whole_formula f)) }
 {
@@ -41,7 +42,7 @@ pub fn formula_of(operand: Operand) -> Option<Formula>
 }
 
 /// The formula that a term is: a name.
-#[tactic(auto, using(qe_syntax::proofs::TreeEquations::trees, qe_syntax::proofs::TreeEquations::wholes))]
+#[tactic(auto, using(written_syntax::proofs::TreeEquations::trees, written_syntax::proofs::TreeEquations::wholes))]
 fn named(term: Term) -> Option<Formula>
     ensures { MatchOption result (formula_of (named_reading term) ≡ None) (λ f. formula_of (named_reading term) ≡ Some (whole_formula f)) }
 {

@@ -1,8 +1,8 @@
 ghost use Rattle.std.specs.Prelude.{◌≡◌, ◌∷◌, [], ◌<◌, length, IfSome, MatchOption};
 ghost use Rattle.redlog_reader.specs.Reader.{after_mark, number_read, name_read, after_equal, relation_of, relation_read};
 
-use qe_syntax::{Literal, Name, Relation};
-use redlog_tokens::{Mark, Terminal, Word};
+use language_meaning::{Literal, Mark, Relation, Terminal, Word};
+use logic_meaning::Name;
 
 /// The first terminal, and the tokens after it.
 pub fn next(tokens: &[Terminal]) -> Option<(Terminal, &[Terminal])>

@@ -2,10 +2,10 @@ ghost use Rattle.std.specs.Prelude.{◌≡◌};
 ghost use Rattle.redlog_reader.specs.Machine.{level, takes_last};
 ghost use Rattle.redlog_reader.specs.View.{frame_of};
 
-use crate::inner_word::InnerWord;
 use crate::operand::Operand;
-use formula_meaning::{Junction, Quantifier};
-use qe_syntax::{Formula, Name, Relation, Term};
+use language_meaning::{InnerWord, Relation};
+use logic_meaning::{Junction, Name, Quantifier};
+use written_syntax::{Formula, Term};
 
 /// An implication: `impl`, `repl` or `equiv`.
 #[derive(Clone, Copy, Debug, PartialEq, Eq)]

@@ -3,9 +3,9 @@ ghost use Rattle.redlog_reader.specs.Reader.{entry_read, items_read, braced_read
 ghost use Rattle.redlog_reader.specs.Reading.{Refuses};
 
 use crate::peek::{after, after_equal, name, number};
-use qe_syntax::{Entries, Literal, PointEntry};
-use redlog_tokens::{Mark, ReadError, Terminal};
+use language_meaning::{Literal, Mark, PointEntry, ReadError, Terminal};
 use std::alloc::Global;
+use written_syntax::Entries;
 
 /// The entries of a point, in braces.
 #[tactic(auto, using(crate::proofs::Options::options))]

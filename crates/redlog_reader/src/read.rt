@@ -1,16 +1,14 @@
 ghost use Rattle.std.specs.Prelude.{◌≡◌, ℕ, List, IfOk, IfErr};
-ghost use Rattle.statement_syntax.specs.Writable.{IsWritable};
-ghost use Rattle.statement_syntax.specs.Statements.{StatementTree};
-ghost use Rattle.statement_syntax.specs.CodeTrees.{statement_tree};
-ghost use Rattle.redlog_reader.specs.Statement.{Spells, Unread};
+ghost use Rattle.written_syntax.specs.StatementSyntaxWritable.{IsWritable};
+ghost use Rattle.language_meaning.specs.Statements.{StatementTree};
+ghost use Rattle.written_syntax.specs.StatementSyntaxCodeTrees.{statement_tree};
+ghost use Rattle.language_meaning.specs.Statement.{Spells, Unread};
 
 use crate::statement::statement;
-use redlog_tokens::{ReadError, is_deep, terminals};
-use statement_syntax::Statement;
+use language_meaning::{BYTE_LIMIT, ReadError};
+use redlog_tokens::{is_deep, terminals};
 use std::alloc::Global;
-
-/// A piece is at most so long, in bytes.
-pub const BYTE_LIMIT: usize = 4_194_304;
+use written_syntax::Statement;
 
 /// The statement that the bytes of one piece spell, with its end mark. Why they spell none is the first of: `Long`, they
 /// are more than 4 MiB; `Lexical`, a token is bad; `Nesting`, the level of a token passes 512; `Syntax`, the tokens

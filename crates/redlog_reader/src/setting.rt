@@ -1,11 +1,11 @@
 ghost use Rattle.std.specs.Prelude.{◌≡◌, map, bytes_eq};
 ghost use Rattle.std.specs.Char.{to_ascii_lowercase};
-ghost use Rattle.redlog_reader.specs.Grammar.{setting_of};
+ghost use Rattle.language_meaning.specs.Grammar.{setting_of};
 
-use statement_syntax::Setting;
+use language_meaning::Setting;
 
 /// The context that a name names, in any letter case.
-#[tactic(auto, unfolding(crate::specs::Grammar::setting_of))]
+#[tactic(auto, unfolding(language_meaning::specs::Grammar::setting_of))]
 pub fn setting_of(name: &[u8]) -> Option<Setting>
     ensures { result ≡ setting_of name.now }
 {

@@ -1,10 +1,10 @@
 ghost use Rattle.std.specs.Prelude.{◌≡◌, ◌∷◌, IfOk, IfErr, MatchOption, Some, None};
-ghost use Rattle.qe_syntax.specs.CodeTrees.{whole_formula};
-ghost use Rattle.statement_syntax.specs.Statements.{Say};
-ghost use Rattle.statement_syntax.specs.Inner.{around};
-ghost use Rattle.statement_syntax.specs.CodeTrees.{statement_tree, whole_action, whole_command};
-ghost use Rattle.redlog_tokens.specs.declared.terminal.Terminal.{Terminal};
-ghost use Rattle.redlog_reader.specs.Grammar.{setting_of, result_of};
+ghost use Rattle.written_syntax.specs.CodeTrees.{whole_formula};
+ghost use Rattle.language_meaning.specs.Statements.{Say};
+ghost use Rattle.language_meaning.specs.Inner.{around};
+ghost use Rattle.written_syntax.specs.StatementSyntaxCodeTrees.{statement_tree, whole_action, whole_command};
+ghost use Rattle.language_meaning.specs.declared.terminal.Terminal.{Terminal};
+ghost use Rattle.language_meaning.specs.Grammar.{setting_of, result_of};
 ghost use Rattle.redlog_reader.specs.Reader.{pointed_read, result_read, is_any, anys_read, context_read, ignored_read, assumed_read, action_from, named_from, action_read, alone, ending, statement_read};
 ghost use Rattle.redlog_reader.specs.Reading.{Refuses};
 
@@ -14,10 +14,10 @@ use crate::grid::grid;
 use crate::peek::{after, name, next};
 use crate::point::point;
 use crate::setting::setting_of;
-use qe_syntax::{Entries, Formula, Formulas, Name};
-use redlog_tokens::{Mark, ReadError, Terminal, Word};
-use statement_syntax::{Action, Command, Statement};
+use language_meaning::{Mark, ReadError, Terminal, Word};
+use logic_meaning::Name;
 use std::alloc::{AllocError, Global};
+use written_syntax::{Action, Command, Entries, Formula, Formulas, Statement};
 
 /// The statement that the tokens spell, with no token after it.
 #[tactic(auto, using(crate::proofs::Options::options))]
@@ -279,7 +279,7 @@ fn result_of(alloc: Global, tokens: &[Terminal]) -> Result<(Command, &[Terminal]
 }
 
 /// The command that a formula is where it is one alone, else the formula by itself.
-#[tactic(auto, using(qe_syntax::proofs::TreeEquations::wholes))]
+#[tactic(auto, using(written_syntax::proofs::TreeEquations::wholes))]
 fn command_of(formula: Formula) -> Command
     ensures { whole_command result ≡ result_of (whole_formula formula) }
 {

@@ -1,13 +1,13 @@
 -- A script of statements that are never refused is unrefused.
 use Rattle.std.proofs.Common.{ℕ, Bool, false, List}
 use Rattle.std.specs.List.{AllByRecursion}
-use Rattle.statement_syntax.specs.Statements.{StatementTree}
-use Rattle.redlog_tokens.specs.Pieces.{IsPiece}
+use Rattle.language_meaning.specs.Statements.{StatementTree}
+use Rattle.language_meaning.specs.Pieces.{IsPiece}
 use Rattle.redlog_tokens.proofs.Cutting.{none_or_piece}
-use Rattle.session_meaning.specs.State.{State}
+use Rattle.program_meaning.specs.State.{State}
 use Rattle.session_commands.specs.Accepted.{IsNeverRefused}
-use Rattle.redlog_run.specs.Run.{AnswersPiece, RunTo, begin, on, piece_bytes}
-use Rattle.redlog_run.specs.Unrefused.{IsUnrefusedPiece}
+use Rattle.program_meaning.specs.Run.{AnswersPiece, RunTo, begin, on, piece_bytes}
+use Rattle.program_meaning.specs.Unrefused.{IsUnrefusedPiece}
 use Rattle.redlog_run.specs.WithoutFormulas as script
 use Rattle.redlog_run.specs.WithoutFormulas.{SpellsFrom}
 use Rattle.redlog_run.specs.Accepted.{NeverRefusedIsUnrefused}

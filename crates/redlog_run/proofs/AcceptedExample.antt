@@ -1,24 +1,24 @@
 -- A script with a formula that is unrefused: each token, and what its two pieces spell.
 use Rattle.std.proofs.Common.{ℕ, List, [], ◌∷◌, true, codes, refl, arith, ⊎_elim}
 use Rattle.std.specs.Prelude.{Some}
-use Rattle.formula_meaning.specs.Formula.{Yes}
-use Rattle.qe_syntax.specs.Names.{is_word}
-use Rattle.qe_syntax.specs.Holes.{alone}
-use Rattle.qe_syntax.specs.Holes as holes
-use Rattle.statement_syntax.specs.Statements.{Choose, Say, Echo}
-use Rattle.statement_syntax.specs.Inner.{about}
-use Rattle.statement_syntax.specs.declared.statement.Setting.TheVariants.{Pasf}
-use Rattle.redlog_tokens.specs.declared.lexer.Lexeme.{Lexeme}
-use Rattle.redlog_tokens.specs.declared.token.TokenKind.{TokenKind}
-use Rattle.redlog_tokens.specs.declared.token.TokenKind.TheVariants as token
-use Rattle.redlog_tokens.specs.Terminals.{word_of, sign_of}
-use Rattle.redlog_tokens.specs.Levels.{groups}
-use Rattle.redlog_tokens.specs.Lexing.{front, signed, worded, Lexes, LexesFrom, over, spaced, taken}
-use Rattle.redlog_tokens.specs.Pieces.{HasNoTokenFrom, IsPiece, marked, inside}
-use Rattle.redlog_reader.specs.Grammar.{setting_of, choose, result, resulting, acting, equivalence, replication, no_implication, disjunction, conjunction, prime, truth, no_conjunct, no_disjunct, no_repl, no_equiv}
-use Rattle.redlog_reader.specs.Statement.{Spells}
+use Rattle.logic_meaning.specs.Formula.{Yes}
+use Rattle.language_meaning.specs.Names.{is_word}
+use Rattle.language_meaning.specs.Holes.{alone}
+use Rattle.language_meaning.specs.Holes as holes
+use Rattle.language_meaning.specs.Statements.{Choose, Say, Echo}
+use Rattle.language_meaning.specs.Inner.{about}
+use Rattle.language_meaning.specs.declared.statement.Setting.TheVariants.{Pasf}
+use Rattle.language_meaning.specs.declared.lexer.Lexeme.{Lexeme}
+use Rattle.language_meaning.specs.declared.token.TokenKind.{TokenKind}
+use Rattle.language_meaning.specs.declared.token.TokenKind.TheVariants as token
+use Rattle.language_meaning.specs.Terminals.{word_of, sign_of}
+use Rattle.language_meaning.specs.Levels.{groups}
+use Rattle.language_meaning.specs.Lexing.{front, signed, worded, Lexes, LexesFrom, over, spaced, taken}
+use Rattle.language_meaning.specs.Pieces.{HasNoTokenFrom, IsPiece, marked, inside}
+use Rattle.language_meaning.specs.Grammar.{setting_of, choose, result, resulting, acting, equivalence, replication, no_implication, disjunction, conjunction, prime, truth, no_conjunct, no_disjunct, no_repl, no_equiv}
+use Rattle.language_meaning.specs.Statement.{Spells}
 use Rattle.session_commands.proofs.Accepted.{truth_is_never_refused}
-use Rattle.redlog_run.specs.Run.{piece_bytes}
+use Rattle.program_meaning.specs.Run.{piece_bytes}
 use Rattle.redlog_run.specs.WithoutFormulas as script
 use Rattle.redlog_run.specs.Accepted.{SomeFormulaIsUnrefused}
 use Rattle.redlog_run.proofs.Accepted.{never_refused}

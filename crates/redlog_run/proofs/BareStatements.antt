@@ -1,11 +1,11 @@
 -- No command stands inside a statement without a formula.
 use Rattle.std.proofs.Common.{◌≡◌, ℕ, List, refl, ap, ◌∙◌, subst}
-use Rattle.qe_syntax.specs.Holes as inside
-use Rattle.statement_syntax.specs.Statements.{ActionTree, StatementTree}
-use Rattle.statement_syntax.specs.Inner.{WithInner}
-use Rattle.redlog_tokens.specs.declared.terminal.Terminal.{Terminal}
-use Rattle.redlog_reader.specs.Grammar.{SpellsAction, assign, result, query, choose, load, on, off, assume, retract, end, bye, quit, SpellsStatement, nothing, acting}
-use Rattle.redlog_reader.specs.Statement.{Spells}
+use Rattle.language_meaning.specs.Holes as inside
+use Rattle.language_meaning.specs.Statements.{ActionTree, StatementTree}
+use Rattle.language_meaning.specs.Inner.{WithInner}
+use Rattle.language_meaning.specs.declared.terminal.Terminal.{Terminal}
+use Rattle.language_meaning.specs.Grammar.{SpellsAction, assign, result, query, choose, load, on, off, assume, retract, end, bye, quit, SpellsStatement, nothing, acting}
+use Rattle.language_meaning.specs.Statement.{Spells}
 use Rattle.redlog_run.specs.WithoutFormulas.{IsWithoutFormula}
 
 action_alone : {ts rest : List Terminal} {a : WithInner ActionTree} → SpellsAction ts a rest → IsWithoutFormula a.tree → a.inner ≡ inside.alone

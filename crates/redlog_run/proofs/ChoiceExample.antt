@@ -1,20 +1,20 @@
 -- A script that is answered: each token, and what its two pieces spell.
 use Rattle.std.proofs.Common.{ℕ, List, [], ◌∷◌, true, codes, refl, arith, ⊎_elim}
 use Rattle.std.specs.Prelude.{Some}
-use Rattle.qe_syntax.specs.Names.{is_word}
-use Rattle.qe_syntax.specs.Holes.{alone}
-use Rattle.statement_syntax.specs.Statements.{Choose, Finish}
-use Rattle.statement_syntax.specs.declared.statement.Setting.TheVariants.{Pasf}
-use Rattle.redlog_tokens.specs.declared.lexer.Lexeme.{Lexeme}
-use Rattle.redlog_tokens.specs.declared.token.TokenKind.{TokenKind}
-use Rattle.redlog_tokens.specs.declared.token.TokenKind.TheVariants as token
-use Rattle.redlog_tokens.specs.Terminals.{word_of, sign_of}
-use Rattle.redlog_tokens.specs.Levels.{groups}
-use Rattle.redlog_tokens.specs.Lexing.{front, signed, worded, Lexes, LexesFrom, over, spaced, taken}
-use Rattle.redlog_tokens.specs.Pieces.{IsPiece, marked, inside}
-use Rattle.redlog_reader.specs.Grammar.{setting_of, choose, end, acting}
-use Rattle.redlog_reader.specs.Statement.{Spells}
-use Rattle.redlog_run.specs.Run.{piece_bytes}
+use Rattle.language_meaning.specs.Names.{is_word}
+use Rattle.language_meaning.specs.Holes.{alone}
+use Rattle.language_meaning.specs.Statements.{Choose, Finish}
+use Rattle.language_meaning.specs.declared.statement.Setting.TheVariants.{Pasf}
+use Rattle.language_meaning.specs.declared.lexer.Lexeme.{Lexeme}
+use Rattle.language_meaning.specs.declared.token.TokenKind.{TokenKind}
+use Rattle.language_meaning.specs.declared.token.TokenKind.TheVariants as token
+use Rattle.language_meaning.specs.Terminals.{word_of, sign_of}
+use Rattle.language_meaning.specs.Levels.{groups}
+use Rattle.language_meaning.specs.Lexing.{front, signed, worded, Lexes, LexesFrom, over, spaced, taken}
+use Rattle.language_meaning.specs.Pieces.{IsPiece, marked, inside}
+use Rattle.language_meaning.specs.Grammar.{setting_of, choose, end, acting}
+use Rattle.language_meaning.specs.Statement.{Spells}
+use Rattle.program_meaning.specs.Run.{piece_bytes}
 use Rattle.redlog_run.specs.WithoutFormulas.{SomeChoiceIsAnswered, last, then}
 use Rattle.redlog_run.proofs.Choices.{choices_are_answered}
 

@@ -4,23 +4,23 @@ use Rattle.std.specs.List.{AllByRecursion, fold}
 use Rattle.std.specs.declared.alloc.Global.{Global}
 use Rattle.std.specs.declared.vec.Vec.{Vec}
 use denote.RawPtr.{null_ptr}
-use Rattle.formula_meaning.specs.Context.{Context, Fields, Integers}
-use Rattle.qe_syntax.specs.Holes.{alone}
-use Rattle.formula_tree.specs.Names.{with_name}
-use Rattle.statement_syntax.specs.Statements.{ActionTree, Empty, Ignored, Finish, Choose, Say, Assign, Assume, Retract, StatementTree}
-use Rattle.redlog_tokens.specs.Pieces.{IsPiece}
-use Rattle.redlog_reader.specs.Statement.{Spells}
+use Rattle.logic_meaning.specs.Context.{Context, Fields, Integers}
+use Rattle.language_meaning.specs.Holes.{alone}
+use Rattle.logic_meaning.specs.Names.{with_name}
+use Rattle.language_meaning.specs.Statements.{ActionTree, Empty, Ignored, Finish, Choose, Say, Assign, Assume, Retract, StatementTree}
+use Rattle.language_meaning.specs.Pieces.{IsPiece}
+use Rattle.language_meaning.specs.Statement.{Spells}
 use Rattle.redlog_tokens.proofs.Cutting.{none_or_piece, same_piece}
 use Rattle.redlog_reader.proofs.Whole.{spells_once}
-use Rattle.session_meaning.specs.declared.line.Line.{Line}
-use Rattle.session_meaning.specs.declared.line.Line.TheVariants as line
-use Rattle.session_meaning.specs.declared.line.StatementError.{StatementError}
-use Rattle.session_meaning.specs.Words.{context_text}
-use Rattle.session_meaning.specs.State.{State, with_standing, with_answers, theory_of, chosen, first_state}
-use Rattle.session_meaning.specs.Reply.{IsLine, statement_variables, IsReached, Answers, RefusesAction}
-use Rattle.redlog_run.specs.Lines.{newline, lines_of}
-use Rattle.redlog_run.specs.Run as run
-use Rattle.redlog_run.specs.Run.{AnswersPiece, finished, answered, refused, Run, piece_bytes}
+use Rattle.program_meaning.specs.declared.line.Line.{Line}
+use Rattle.program_meaning.specs.declared.line.Line.TheVariants as line
+use Rattle.program_meaning.specs.declared.line.StatementError.{StatementError}
+use Rattle.program_meaning.specs.Words.{context_text}
+use Rattle.program_meaning.specs.State.{State, with_standing, with_answers, theory_of, chosen, first_state}
+use Rattle.program_meaning.specs.Reply.{IsLine, statement_variables, IsReached, Answers, RefusesAction}
+use Rattle.program_meaning.specs.Lines.{newline, lines_of}
+use Rattle.program_meaning.specs.Run as run
+use Rattle.program_meaning.specs.Run.{AnswersPiece, finished, answered, refused, Run, piece_bytes}
 use Rattle.redlog_run.proofs.Unrefused.{plain_state, never, action_refused}
 use Rattle.redlog_run.proofs.BareStatements.{spelled_alone}
 use Rattle.redlog_run.specs.WithoutFormulas as script

@@ -4,36 +4,36 @@ use Rattle.std.proofs.lemmas.List.{take-append-drop, take_all, length-take-le}
 use Rattle.std.specs.Prelude.{◌⊎◌, Option, Some, None, Result, Ok, Err}
 use Rattle.std.specs.declared.alloc.Global.{Global}
 use Rattle.std.specs.declared.string.String.{String}
-use Rattle.command_words.specs.declared.options.Language.{Language}
-use Rattle.command_words.specs.declared.options.Language.TheVariants.{Redlog, SmtLib}
-use Rattle.command_words.specs.declared.options.Options.{Options}
-use Rattle.command_words.specs.Words.{Spells}
-use Rattle.command_words.proofs.Spelling.{words_spell_once}
-use Rattle.generated_scripts.specs.Generated.{generated}
-use Rattle.qe_io.specs.Streams.{Gave, IsAtEnd, Took, Rose}
-use Rattle.script_splitter.proofs.Following.{still_open}
-use Rattle.session_meaning.specs.State.{first_state}
+use Rattle.program_meaning.specs.declared.options.Language.{Language}
+use Rattle.program_meaning.specs.declared.options.Language.TheVariants.{Redlog, SmtLib}
+use Rattle.program_meaning.specs.declared.options.Options.{Options}
+use Rattle.program_meaning.specs.CommandWords.{Spells}
+use Rattle.redlog_run.proofs.Spelling.{words_spell_once}
+use Rattle.program_meaning.specs.Generated.{generated}
+use Rattle.program_meaning.specs.Streams.{Gave, IsAtEnd, Took, Rose}
+use Rattle.redlog_tokens.proofs.Following.{still_open}
+use Rattle.program_meaning.specs.State.{first_state}
 use Rattle.session_commands.specs.Seen.{state_in}
 use Rattle.redlog_run.specs.declared.answer.Answering.{Answering}
 use Rattle.qe_io.specs.declared.stop.AnswerStop.{AnswerStop}
 use Rattle.qe_io.specs.declared.stop.AnswerStop.TheVariants as answer
 use Rattle.qe_io.specs.declared.stop.StreamStop.{StreamStop}
 use Rattle.qe_io.specs.declared.stop.StreamStop.TheVariants as streams
-use Rattle.redlog_run.specs.declared.status.Status.{Status}
-use Rattle.redlog_run.specs.declared.status.Status.TheVariants as status
-use Rattle.redlog_run.specs.Claim.{Claim}
+use Rattle.program_meaning.specs.declared.status.Status.{Status}
+use Rattle.program_meaning.specs.declared.status.Status.TheVariants as status
+use Rattle.program_meaning.specs.Claim.{Claim}
 use Rattle.redlog_run.specs.ClaimUnder.{ClaimUnder}
-use Rattle.qe_io.specs.Ends.{Ends, ends, HasFailed, TookFront}
-use Rattle.redlog_run.specs.Outcome.{script_limit, read_size, node_limit, Given, IsWhole, Answered, OutcomeOfSource, OutcomeOfSmt, outcome_of, completes_of, Faults}
-use Rattle.redlog_run.specs.Run.{RunOf, begin, RunsSo, RunsAll, IsEndedWith}
+use Rattle.program_meaning.specs.Ends.{Ends, ends, HasFailed, TookFront}
+use Rattle.program_meaning.specs.Outcome.{script_limit, read_size, node_limit, Given, IsWhole, Answered, OutcomeOfSource, OutcomeOfSmt, outcome_of, completes_of, Faults}
+use Rattle.program_meaning.specs.Run.{RunOf, begin, RunsSo, RunsAll, IsEndedWith}
 use Rattle.qe_io.specs.Stops.{AnswerCause}
 use Rattle.redlog_run.specs.Script.{IsWritten, Part, EndsIn, AnswersBytes, AnswersLast, stream_status}
 use Rattle.redlog_run.specs.Steps.{ClaimOfSource, ClaimOfSmt, ClaimOfGenerated}
 use Rattle.qe_io.proofs.Joined.{gave_none, took_none, gave_joined, still_at_end}
 use Rattle.redlog_run.proofs.Reaching.{too_long}
 use Rattle.redlog_run.proofs.Unrefused.{unrefused_scripts}
-use Rattle.smt_answers.specs.Stops.{SmtOutcome, SmtFaults}
-use Rattle.smt_answers.proofs.Unrefused.{unrefused_source, not_too_long}
+use Rattle.smtlib_front.specs.Stops.{SmtOutcome, SmtFaults}
+use Rattle.smtlib_front.proofs.Unrefused.{unrefused_source, not_too_long}
 
 -- ---- a script of the source
 

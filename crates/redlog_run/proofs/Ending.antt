@@ -1,15 +1,15 @@
 -- Statements that end a script.
 use Rattle.std.proofs.Common.{◌≡◌, ℕ, Bool, true, false, List, refl, sym, ap, ◌∙◌, subst}
-use Rattle.statement_syntax.specs.Statements.{ActionTree, Empty, Ignored, Finish, Choose, Say, Assign, Assume, Retract, StatementTree}
-use Rattle.redlog_tokens.specs.Pieces.{IsPiece}
+use Rattle.language_meaning.specs.Statements.{ActionTree, Empty, Ignored, Finish, Choose, Say, Assign, Assume, Retract, StatementTree}
+use Rattle.language_meaning.specs.Pieces.{IsPiece}
 use Rattle.redlog_tokens.proofs.Cutting.{same_piece}
 use Rattle.redlog_reader.proofs.Whole.{spells_once}
-use Rattle.session_meaning.specs.declared.line.Line.{Line}
-use Rattle.session_meaning.specs.declared.line.Line.TheVariants as line
-use Rattle.session_meaning.specs.declared.line.StatementError.{StatementError}
-use Rattle.session_meaning.specs.State.{State}
-use Rattle.session_meaning.specs.Reply.{Answers, RefusesAction}
-use Rattle.redlog_run.specs.Run.{AnswersPiece, finished, answered, refused, piece_bytes, SpellsFinish, HasEnd, here, later}
+use Rattle.program_meaning.specs.declared.line.Line.{Line}
+use Rattle.program_meaning.specs.declared.line.Line.TheVariants as line
+use Rattle.program_meaning.specs.declared.line.StatementError.{StatementError}
+use Rattle.program_meaning.specs.State.{State}
+use Rattle.program_meaning.specs.Reply.{Answers, RefusesAction}
+use Rattle.program_meaning.specs.Run.{AnswersPiece, finished, answered, refused, piece_bytes, SpellsFinish, HasEnd, here, later}
 use Rattle.redlog_run.specs.WithoutFormulas.{IsWithoutFormula}
 use Rattle.redlog_run.proofs.Unrefused.{plain_state, never, action_refused}
 use Rattle.redlog_run.proofs.BareStatements.{spelled_alone}

@@ -10,6 +10,9 @@ pub mod Standing
 pub mod Accepted
 pub mod AcceptedExample
 pub mod NamesAfter
-pub mod FromProblemReading
-pub mod FromSessionState
-pub mod FromSharedForms
+pub mod Values
+pub mod Spelling
+pub mod Steps
+pub mod Rows
+pub mod Walks
+pub mod GeneratedScriptsSteps

@@ -2,11 +2,11 @@
 use Rattle.std.proofs.Common.{◌≡◌, ℕ, ◌-◌, ◌<◌, ◌≤◌, Bool, true, false, List, [], ◌∷◌, ◌++◌, length, take, drop, refl, sym, ap, ◌∙◌, subst, append-nil, append_assoc, arith, length-append, length-drop}
 use Rattle.std.proofs.Math.Seq.{take-append_seam}
 use Rattle.std.proofs.lemmas.List.{drop-append-le, drop_all}
-use Rattle.redlog_tokens.specs.Pieces.{HasNoTokenFrom, IsPiece}
-use Rattle.redlog_tokens.specs.Lexing.{Lexes, over}
-use Rattle.script_splitter.proofs.Places.{piece_within}
-use Rattle.session_meaning.specs.State.{State, first_state}
-use Rattle.redlog_run.specs.Run.{RunOf, RunTo, begin, on, RunsTo, RunsAll, piece_bytes, HasEnd, here, later, IsEndedWith, IsTooLong}
+use Rattle.language_meaning.specs.Pieces.{HasNoTokenFrom, IsPiece}
+use Rattle.language_meaning.specs.Lexing.{Lexes, over}
+use Rattle.redlog_tokens.proofs.Places.{piece_within}
+use Rattle.program_meaning.specs.State.{State, first_state}
+use Rattle.program_meaning.specs.Run.{RunOf, RunTo, begin, on, RunsTo, RunsAll, piece_bytes, HasEnd, here, later, IsEndedWith, IsTooLong}
 use Rattle.redlog_run.specs.Adding.{Adds}
 use Rattle.redlog_run.proofs.Ending.{spells_finish, spells_no_finish, end_after}
 use Rattle.redlog_run.proofs.Replies.{Continues, begins, ends, stops, goes_on}

@@ -2,16 +2,16 @@
 use Rattle.std.proofs.Common.{◌≡◌, ◌≢◌, sym, ap, ◌∙◌, subst, refl, ℕ, List, [], ◌++◌, Bool, true, false, ◌||◌, Ok, Err, append_assoc, append-nil}
 use Rattle.std.specs.declared.alloc.Global.{Global}
 use Rattle.std.specs.declared.vec.Vec.{Vec}
-use Rattle.redlog_tokens.specs.Pieces.{HasNoTokenFrom, IsPiece}
-use Rattle.session_meaning.specs.declared.line.Line.{Line}
-use Rattle.session_meaning.specs.declared.line.Line.TheVariants as line
-use Rattle.session_meaning.specs.declared.line.StatementError.{StatementError}
-use Rattle.session_meaning.specs.declared.line.StatementError.TheVariants as error
-use Rattle.session_meaning.specs.Words.{word_of}
-use Rattle.session_meaning.specs.State.{State}
-use Rattle.session_meaning.specs.Reply.{Reply}
-use Rattle.redlog_run.specs.Lines.{refusal_line, lines_of}
-use Rattle.redlog_run.specs.Run.{finished, answered, refused, Run, over, last, then, piece_bytes}
+use Rattle.language_meaning.specs.Pieces.{HasNoTokenFrom, IsPiece}
+use Rattle.program_meaning.specs.declared.line.Line.{Line}
+use Rattle.program_meaning.specs.declared.line.Line.TheVariants as line
+use Rattle.program_meaning.specs.declared.line.StatementError.{StatementError}
+use Rattle.program_meaning.specs.declared.line.StatementError.TheVariants as error
+use Rattle.program_meaning.specs.Words.{word_of}
+use Rattle.program_meaning.specs.State.{State}
+use Rattle.program_meaning.specs.Reply.{Reply}
+use Rattle.program_meaning.specs.Lines.{refusal_line, lines_of}
+use Rattle.program_meaning.specs.Run.{finished, answered, refused, Run, over, last, then, piece_bytes}
 use Rattle.redlog_run.specs.Adding.{Adds}
 
 or_false : (b : Bool) → b ≡ (b || false)

@@ -3,21 +3,21 @@ use Rattle.std.proofs.Common.{◌≡◌, ℕ, ◌+◌, ◌-◌, Bool, true, fals
 use Rattle.std.proofs.lemmas.List.{take-append-drop, take_all}
 use Rattle.std.specs.declared.alloc.Global.{Global}
 use Rattle.std.specs.declared.vec.Vec.{Vec}
-use Rattle.session_commands.specs.FromBlockScheduler.{Limits}
-use Rattle.script_splitter.specs.declared.splitter.Cut.{Cut}
-use Rattle.script_splitter.specs.Pieces.{Held, Follows, HasBytes, CutsOff, IsLast}
-use Rattle.redlog_tokens.specs.Pieces.{HasNoTokenFrom}
-use Rattle.session_meaning.specs.State.{State, first_state}
+use Rattle.smtlib_front.specs.FromEngineAnswers.{Limits}
+use Rattle.redlog_tokens.specs.declared.splitter.Cut.{Cut}
+use Rattle.redlog_tokens.specs.Pieces.{Held, Follows, HasBytes, CutsOff, IsLast}
+use Rattle.language_meaning.specs.Pieces.{HasNoTokenFrom}
+use Rattle.program_meaning.specs.State.{State, first_state}
 use Rattle.session_commands.specs.Seen.{Seen, state_in}
 use Rattle.redlog_run.specs.declared.answer.Answers.{Answers}
 use Rattle.redlog_run.specs.declared.answer.Answering.{Answering}
-use Rattle.session_meaning.specs.declared.line.StatementError.TheVariants as error
-use Rattle.session_meaning.specs.Words.{word_of}
-use Rattle.redlog_run.specs.Lines.{refusal_line}
-use Rattle.redlog_run.specs.Run.{AnswersPiece, finished, RunOf, RunTo, begin, RunsTo, RunsSo}
+use Rattle.program_meaning.specs.declared.line.StatementError.TheVariants as error
+use Rattle.program_meaning.specs.Words.{word_of}
+use Rattle.program_meaning.specs.Lines.{refusal_line}
+use Rattle.program_meaning.specs.Run.{AnswersPiece, finished, RunOf, RunTo, begin, RunsTo, RunsSo}
 use Rattle.redlog_run.specs.Adding.{Adds}
-use Rattle.qe_io.specs.Streams.{Took}
-use Rattle.qe_io.specs.Ends.{TookFront}
+use Rattle.program_meaning.specs.Streams.{Took}
+use Rattle.program_meaning.specs.Ends.{TookFront}
 use Rattle.redlog_run.specs.Script.{Stands, IsEnded, StandsOrEnds, IsWritten, HoldsOrWrote, Part, EndsIn, RunsOut, FailsIn}
 use Rattle.qe_io.proofs.Joined.{rest_whole, took_joined, front_after}
 use Rattle.redlog_run.proofs.Replies.{adds_refusal}

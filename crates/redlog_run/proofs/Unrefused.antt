@@ -1,19 +1,19 @@
 -- A piece that spells a statement which has no cause of a refusal is not refused.
 use Rattle.std.proofs.Common.{◌≡◌, ◌≢◌, ⊎_elim, ℕ, Bool, true, false, ◌||◌, List, [], ◌++◌, refl, ap, ap₂, ◌∙◌, subst}
 use Rattle.std.specs.Prelude.{Err}
-use Rattle.formula_meaning.specs.Tree.{Tree}
-use Rattle.qe_syntax.specs.Holes.{Nests, alone}
-use Rattle.statement_syntax.specs.Statements.{ActionTree, StatementTree}
-use Rattle.redlog_reader.specs.Statement.{Spells}
-use Rattle.redlog_tokens.specs.declared.token.ReadError.TheVariants as reading
+use Rattle.logic_meaning.specs.Tree.{Tree}
+use Rattle.language_meaning.specs.Holes.{Nests, alone}
+use Rattle.language_meaning.specs.Statements.{ActionTree, StatementTree}
+use Rattle.language_meaning.specs.Statement.{Spells}
+use Rattle.language_meaning.specs.declared.token.ReadError.TheVariants as reading
 use Rattle.redlog_reader.proofs.Whole.{spells_once, not_unread}
-use Rattle.session_meaning.specs.declared.line.StatementError.{StatementError}
-use Rattle.session_meaning.specs.declared.line.StatementError.TheVariants as error
-use Rattle.session_meaning.specs.State.{State, with_names, with_answers}
-use Rattle.session_meaning.specs.Inside.{GivesAll, SomeStops}
-use Rattle.session_meaning.specs.Reply.{with_variables, IsReached, RefusesAction, RefusesStatement, SpellsRefused, Reply}
-use Rattle.redlog_run.specs.Run.{AnswersPiece, finished, answered, refused, Run, over, last, then, RunTo, begin, on, piece_bytes}
-use Rattle.redlog_run.specs.Unrefused.{IsUnrefusedPiece, IsUnrefused}
+use Rattle.program_meaning.specs.declared.line.StatementError.{StatementError}
+use Rattle.program_meaning.specs.declared.line.StatementError.TheVariants as error
+use Rattle.program_meaning.specs.State.{State, with_names, with_answers}
+use Rattle.program_meaning.specs.Inside.{GivesAll, SomeStops}
+use Rattle.program_meaning.specs.Reply.{with_variables, IsReached, RefusesAction, RefusesStatement, SpellsRefused, Reply}
+use Rattle.program_meaning.specs.Run.{AnswersPiece, finished, answered, refused, Run, over, last, then, RunTo, begin, on, piece_bytes}
+use Rattle.program_meaning.specs.Unrefused.{IsUnrefusedPiece, IsUnrefused}
 use Rattle.redlog_run.specs.NoRefusal.{UnrefusedScriptsHaveNoRefusal}
 
 -- ---- statements inside which no command stands

@@ -1,9 +1,9 @@
 -- Scripts of statements that are never refused.
 use Rattle.std.specs.Prelude.{ℕ, List, codes}
 use Rattle.std.specs.List.{AllByRecursion}
-use Rattle.statement_syntax.specs.Statements.{StatementTree}
+use Rattle.language_meaning.specs.Statements.{StatementTree}
 use Rattle.session_commands.specs.Accepted.{IsNeverRefused}
-use Rattle.redlog_run.specs.Unrefused.{IsUnrefused}
+use Rattle.program_meaning.specs.Unrefused.{IsUnrefused}
 use Rattle.redlog_run.specs.WithoutFormulas.{SpellsFrom}
 
 -- ---- what is proved

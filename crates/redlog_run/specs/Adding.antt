@@ -1,7 +1,7 @@
 -- What one piece adds to the lines before it.
 use Rattle.std.specs.Prelude.{◌≡◌, ℕ, List, ◌++◌, Bool, ◌||◌}
-use Rattle.session_meaning.specs.State.{State}
-use Rattle.redlog_run.specs.Run.{AnswersPiece}
+use Rattle.program_meaning.specs.State.{State}
+use Rattle.program_meaning.specs.Run.{AnswersPiece}
 
 -- what one piece adds to the lines and to the flag of a refusal
 pub record Adds (s : State) (limit : ℕ) (piece : List ℕ) (offset : ℕ) (ends : Bool) (next : State) (lines : List ℕ) (refusal : Bool) (all : List ℕ) (some : Bool) : Type 0 where

@@ -1,7 +1,7 @@
 -- A script in which nothing has a cause of a refusal is answered without one.
 use Rattle.std.specs.Prelude.{ℕ, List, true}
-use Rattle.redlog_run.specs.Run.{RunOf}
-use Rattle.redlog_run.specs.Unrefused.{IsUnrefused}
+use Rattle.program_meaning.specs.Run.{RunOf}
+use Rattle.program_meaning.specs.Unrefused.{IsUnrefused}
 
 -- no run of the script has a refusal
 abbrev pub HasNoRefusal : ℕ → List ℕ → Type 0

@@ -7,11 +7,11 @@ use Rattle.std.specs.declared.string.String.{String}
 use Rattle.std.specs.declared.vec.Vec.{Vec}
 use Rattle.redlog_run.specs.declared.process.WordsError.{WordsError}
 use Rattle.redlog_run.specs.declared.process.WordsError.TheVariants as words
-use Rattle.redlog_run.specs.declared.status.Status.{Status}
-use Rattle.redlog_run.specs.declared.status.Status.TheVariants as status
-use Rattle.redlog_run.specs.Claim.{Claim}
-use Rattle.qe_io.specs.Ends.{Ends}
-use Rattle.redlog_run.specs.Numbers.{number_of}
+use Rattle.program_meaning.specs.declared.status.Status.{Status}
+use Rattle.program_meaning.specs.declared.status.Status.TheVariants as status
+use Rattle.program_meaning.specs.Claim.{Claim}
+use Rattle.program_meaning.specs.Ends.{Ends}
+use Rattle.program_meaning.specs.Numbers.{number_of}
 
 -- the code is the number of a status of which this is true
 abbrev pub EndsWith : ExitCode → (Status → Type 0) → Type 0

@@ -1,7 +1,7 @@
 -- How a script is answered while it is read, step by step.
 use Rattle.std.specs.Prelude.{◌≡◌, ℕ, ◌≤◌, List, [], ◌∷◌, ◌++◌, length, Option, Result, Ok, Err, Bool, true, false, ◌⊎◌, ◌&&◌, ◌==◌, if◌then◌else◌}
-use Rattle.qe_io.specs.Streams.{Took, Rose}
-use Rattle.script_splitter.specs.Pieces.{Follows}
+use Rattle.program_meaning.specs.Streams.{Took, Rose}
+use Rattle.redlog_tokens.specs.Pieces.{Follows}
 use Rattle.session_commands.specs.Seen.{state_in}
 use Rattle.redlog_run.specs.declared.answer.Answering.{Answering}
 use Rattle.redlog_run.specs.declared.answer.Answers.{Answers}
@@ -11,10 +11,10 @@ use Rattle.qe_io.specs.declared.stop.StreamStop.{StreamStop}
 use Rattle.qe_io.specs.declared.stop.StreamStop.TheVariants as stop
 use Rattle.qe_io.specs.declared.stop.AnswerStop.{AnswerStop}
 use Rattle.qe_io.specs.declared.stop.AnswerStop.TheVariants as answer
-use Rattle.redlog_run.specs.declared.status.Status.{Status}
-use Rattle.redlog_run.specs.declared.status.Status.TheVariants as status
-use Rattle.qe_io.specs.Ends.{TookFront}
-use Rattle.redlog_run.specs.Run.{RunOf, RunsTo, RunsSo, IsEndedWith}
+use Rattle.program_meaning.specs.declared.status.Status.{Status}
+use Rattle.program_meaning.specs.declared.status.Status.TheVariants as status
+use Rattle.program_meaning.specs.Ends.{TookFront}
+use Rattle.program_meaning.specs.Run.{RunOf, RunsTo, RunsSo, IsEndedWith}
 
 -- The splitter was fed these bytes, and these are the lines of the pieces that it handed out, which leave the state of the session.
 pub record Stands (limit : ℕ) (bytes lines : List ℕ) (a : Answering) : Type 0 where

@@ -1,15 +1,15 @@
 -- What the steps of the program promise one another.
 use Rattle.std.specs.Prelude.{◌≡◌, ℕ, ◌≤◌, List, length, Option, Some, Bool, true, false}
-use Rattle.qe_io.specs.Streams.{Took, Rose}
-use Rattle.generated_scripts.specs.Generated.{generated, tally}
-use Rattle.redlog_run.specs.declared.status.Status.{Status}
-use Rattle.redlog_run.specs.declared.status.Status.TheVariants as status
-use Rattle.qe_io.specs.Ends.{Ends, HasFailed, TookFront}
-use Rattle.redlog_run.specs.Outcome.{script_limit, OutcomeOfSource, OutcomeOfSmt, Faults, IsDoneOrMemory}
-use Rattle.redlog_run.specs.Run.{RunOf}
-use Rattle.redlog_run.specs.Unrefused.{IsUnrefused}
-use Rattle.smt_answers.specs.Reading.{smt_limit}
-use Rattle.smt_answers.specs.Unrefused.{IsSmtUnrefused}
+use Rattle.program_meaning.specs.Streams.{Took, Rose}
+use Rattle.program_meaning.specs.Generated.{generated, tally}
+use Rattle.program_meaning.specs.declared.status.Status.{Status}
+use Rattle.program_meaning.specs.declared.status.Status.TheVariants as status
+use Rattle.program_meaning.specs.Ends.{Ends, HasFailed, TookFront}
+use Rattle.program_meaning.specs.Outcome.{script_limit, OutcomeOfSource, OutcomeOfSmt, Faults, IsDoneOrMemory}
+use Rattle.program_meaning.specs.Run.{RunOf}
+use Rattle.program_meaning.specs.Unrefused.{IsUnrefused}
+use Rattle.program_meaning.specs.Reading.{smt_limit}
+use Rattle.program_meaning.specs.SmtUnrefused.{IsSmtUnrefused}
 
 -- the claim of a script of the source
 pub record ClaimOfSource (limit : ℕ) (before after : Ends) (s : Status) : Type 0 where

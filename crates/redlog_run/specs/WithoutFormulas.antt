@@ -1,13 +1,13 @@
 -- Scripts whose statements have no formula, and what they are answered with.
 use Rattle.std.specs.Prelude.{◌≡◌, ℕ, List, [], ◌∷◌, ◌++◌, Bool, false, codes, if◌then◌else◌}
 use Rattle.std.specs.List.{flat_map, AllByRecursion}
-use Rattle.statement_syntax.specs.Statements.{ActionTree, Empty, Ignored, Finish, Choose, Say, Assign, Assume, Retract, StatementTree}
-use Rattle.redlog_tokens.specs.Pieces.{HasNoTokenFrom, IsPiece}
-use Rattle.redlog_reader.specs.Statement.{Spells}
-use Rattle.session_meaning.specs.State.{theory_of}
-use Rattle.session_meaning.specs.Words.{context_text}
-use Rattle.redlog_run.specs.Lines.{newline}
-use Rattle.redlog_run.specs.Run.{RunOf, piece_bytes}
+use Rattle.language_meaning.specs.Statements.{ActionTree, Empty, Ignored, Finish, Choose, Say, Assign, Assume, Retract, StatementTree}
+use Rattle.language_meaning.specs.Pieces.{HasNoTokenFrom, IsPiece}
+use Rattle.language_meaning.specs.Statement.{Spells}
+use Rattle.program_meaning.specs.State.{theory_of}
+use Rattle.program_meaning.specs.Words.{context_text}
+use Rattle.program_meaning.specs.Lines.{newline}
+use Rattle.program_meaning.specs.Run.{RunOf, piece_bytes}
 use Rattle.redlog_run.specs.NoRefusal.{HasNoRefusal}
 
 -- from this place on the script spells these statements, up to the first that ends it, or else to its end

@@ -1,16 +1,18 @@
 ghost use Rattle.std.specs.Prelude.{◌≡◌, ◌≢◌, ℕ, ◌+◌, ◌<◌, ◌≤◌, ◌^◌, List, ◌++◌, ◌∷◌, [], true, false, length, take, IfOk, OnOk};
-ghost use Rattle.script_splitter.specs.Pieces.{HasBytes};
+ghost use Rattle.redlog_tokens.specs.Pieces.{HasBytes};
 ghost use Rattle.session_commands.specs.Seen.{state_in};
-ghost use Rattle.session_meaning.specs.Words.{word_of};
-ghost use Rattle.redlog_run.specs.Lines.{refusal_line};
-ghost use Rattle.redlog_run.specs.Run.{RunOf};
+ghost use Rattle.program_meaning.specs.Words.{word_of};
+ghost use Rattle.program_meaning.specs.Lines.{refusal_line};
+ghost use Rattle.program_meaning.specs.Run.{RunOf};
 ghost use Rattle.redlog_run.specs.Adding.{Adds};
 ghost use Rattle.redlog_run.specs.Script.{Stands, StandsOrEnds};
 
 use crate::team::Team;
+use program_meaning::{Line, StatementError};
 use qe_parallel::Gate;
-use script_splitter::{Cut, Splitter};
-use session_commands::{Limits, Line, Session, StatementError};
+use redlog_tokens::{Cut, Splitter};
+use session_commands::Session;
+use smtlib_front::Limits;
 use std::alloc::{AllocError, Global};
 use std::thread::Threads;
 

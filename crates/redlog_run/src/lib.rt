@@ -2,18 +2,29 @@
 #![tactic(auto)]
 
 mod answer;
+mod command_words_laws;
+mod count;
 mod laws;
+mod number;
+mod options;
 mod process;
 mod program;
+mod reading;
+mod script;
 mod smt;
-mod status;
 mod stream;
 mod team;
+mod value;
+mod words;
 mod write;
 
+pub use command_words_laws::words_spell_once;
+pub use count::tally;
 pub use laws::{
     never_refused_is_unrefused, scripts_without_formulas, unrefused_scripts_have_no_refusal,
 };
 pub use process::{WordsError, finish, run_process};
 pub use program::{run, run_gated};
-pub use status::Status;
+pub use reading::options_of;
+pub use script::generated;
+pub use words::are_valid;

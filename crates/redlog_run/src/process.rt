@@ -1,13 +1,13 @@
 ghost use Rattle.std.specs.Prelude.{◌≡◌, ◌≢◌};
 ghost use Rattle.std.specs.IoError.{error_kind};
 ghost use Rattle.std.specs.Process.{exit_status};
-ghost use Rattle.qe_io.specs.Ends.{ends};
-ghost use Rattle.redlog_run.specs.Numbers.{number_of};
+ghost use Rattle.program_meaning.specs.Ends.{ends};
+ghost use Rattle.program_meaning.specs.Numbers.{number_of};
 ghost use Rattle.redlog_run.specs.Process.{EndsWith, EndsProcess, Finishes};
 
 use crate::program::run;
-use crate::status::Status;
-use qe_io::{Sink, Source, StdSink, StdSource};
+use program_meaning::{Sink, Source, Status};
+use qe_io::{StdSink, StdSource};
 use std::alloc::Global;
 use std::env::{self, Env};
 use std::io::{self, ErrorKind, Read, Write};

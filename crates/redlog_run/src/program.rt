@@ -1,23 +1,24 @@
 ghost use Rattle.std.specs.Prelude.{◌≡◌, ◌≤◌, IfOk};
-ghost use Rattle.command_words.specs.OptionIds.{AreInRange};
-ghost use Rattle.redlog_run.specs.Claim.{Claim};
+ghost use Rattle.program_meaning.specs.OptionIds.{AreInRange};
+ghost use Rattle.program_meaning.specs.Claim.{Claim};
 ghost use Rattle.redlog_run.specs.ClaimUnder.{ClaimUnder};
-ghost use Rattle.qe_io.specs.Ends.{ends};
-ghost use Rattle.redlog_run.specs.Outcome.{node_limit};
+ghost use Rattle.program_meaning.specs.Ends.{ends};
+ghost use Rattle.program_meaning.specs.Outcome.{node_limit};
 ghost use Rattle.redlog_run.specs.Workers.{worker_limit};
 ghost use Rattle.redlog_run.specs.Steps.{ClaimOfGenerated, IsTally};
 
 use crate::answer::answer_script;
+use crate::count::tally;
+use crate::reading::options_of;
+use crate::script::generated;
 use crate::smt::answer_smt_source;
-use crate::status::Status;
 use crate::stream::answer_source;
 use crate::team::Team;
+use crate::words::are_valid;
 use crate::write::write_answer;
-use command_words::{Language, Options, are_valid, options_of};
-use generated_scripts::{generated, tally};
-use qe_io::{Sink, Source};
+use program_meaning::{Language, Options, Sink, Source, Status};
 use qe_parallel::{Gate, OpenGate};
-use session_commands::Limits;
+use smtlib_front::Limits;
 use std::alloc::{AllocError, Global};
 use std::thread::Threads;
 

@@ -1,14 +1,12 @@
 ghost use Rattle.std.specs.Prelude.{◌≤◌};
-ghost use Rattle.qe_io.specs.Ends.{ends};
+ghost use Rattle.program_meaning.specs.Ends.{ends};
 ghost use Rattle.redlog_run.specs.Steps.{ClaimOfSmt};
 
-use crate::status::Status;
 use crate::stream::stream_status;
 use crate::team::Team;
-use qe_io::{Sink, Source};
+use program_meaning::{Sink, Source, Status};
 use qe_parallel::Gate;
-use session_commands::Limits;
-use smt_answers::answer_smt;
+use smtlib_front::{Limits, answer_smt};
 use std::alloc::Global;
 use std::thread::Threads;
 

@@ -1,16 +1,16 @@
 ghost use Rattle.std.specs.Prelude.{◌≡◌, ℕ, ◌+◌, ◌<◌, ◌≤◌, ◌^◌, List, [], false, length, Option, IfOk, IfErr, OnOk};
-ghost use Rattle.qe_io.specs.Ends.{ends};
+ghost use Rattle.program_meaning.specs.Ends.{ends};
 ghost use Rattle.qe_io.specs.Stops.{AnswerCause};
 ghost use Rattle.redlog_run.specs.Script.{IsWritten, AnswersBytes, AnswersLast, stream_status};
 ghost use Rattle.redlog_run.specs.Steps.{ClaimOfSource};
 
 use crate::answer::{Answering, answer_last, answer_next, begin};
-use crate::status::Status;
 use crate::team::Team;
 use crate::write::{pace_of, write_due, write_lines};
-use qe_io::{AnswerStop, Sink, Source, StreamStop, write_all};
+use program_meaning::{Sink, Source, Status};
+use qe_io::{AnswerStop, StreamStop, write_all};
 use qe_parallel::Gate;
-use session_commands::Limits;
+use smtlib_front::Limits;
 use std::alloc::Global;
 use std::thread::Threads;
 

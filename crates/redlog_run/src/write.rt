@@ -1,11 +1,11 @@
 ghost use Rattle.std.specs.Prelude.{◌≡◌, [], ◌∷◌, OnOk, OnErr};
-ghost use Rattle.qe_io.specs.Streams.{Took, Rose};
-ghost use Rattle.qe_io.specs.Ends.{TookFront};
+ghost use Rattle.program_meaning.specs.Streams.{Took, Rose};
+ghost use Rattle.program_meaning.specs.Ends.{TookFront};
 ghost use Rattle.redlog_run.specs.Script.{Written, HoldsOrWrote, pace_of};
 
 use crate::answer::Answers;
-use crate::status::Status;
-use qe_io::{Sink, WriteFailed, write_all};
+use program_meaning::{Sink, Status, WriteFailed};
+use qe_io::write_all;
 
 /// Writes the text of an answer. The status is Done, or Refused where some line of the answer is a refusal, or WriteFault.
 pub fn write_answer<K: Sink>(sink: &mut K, text: &[u8], refused: bool) -> Status

@@ -4,16 +4,16 @@ use Rattle.std.proofs.lemmas.List.{map-append}
 use Rattle.std.specs.Prelude.{Option, Some, None}
 use Rattle.redlog_tokens.specs.declared.ahead.Ahead.{Ahead}
 use Rattle.redlog_tokens.specs.declared.ahead.Ahead.TheVariants as ahead
-use Rattle.redlog_tokens.specs.declared.lexer.Front.{Front}
-use Rattle.redlog_tokens.specs.declared.lexer.Front.TheVariants as found
-use Rattle.redlog_tokens.specs.declared.lexer.Lexeme.{Lexeme}
-use Rattle.redlog_tokens.specs.declared.terminal.Terminal.{Terminal}
+use Rattle.language_meaning.specs.declared.lexer.Front.{Front}
+use Rattle.language_meaning.specs.declared.lexer.Front.TheVariants as found
+use Rattle.language_meaning.specs.declared.lexer.Lexeme.{Lexeme}
+use Rattle.language_meaning.specs.declared.terminal.Terminal.{Terminal}
 use Rattle.redlog_tokens.specs.declared.token.Token.{Token}
-use Rattle.redlog_tokens.specs.declared.token.TokenKind.{TokenKind}
+use Rattle.language_meaning.specs.declared.token.TokenKind.{TokenKind}
 use Rattle.redlog_tokens.specs.Ahead.{named, seen, size_ahead, IsAhead, AreTerminals}
-use Rattle.redlog_tokens.specs.Lexing.{front, Lexes, LexesFrom, IsLexical}
+use Rattle.language_meaning.specs.Lexing.{front, Lexes, LexesFrom, IsLexical}
 use Rattle.redlog_tokens.specs.Longest.{IsFront, lexeme_of}
-use Rattle.redlog_tokens.specs.Terminals.{terminal_of}
+use Rattle.language_meaning.specs.Terminals.{terminal_of}
 use Rattle.redlog_tokens.specs.TerminalList.{terminals}
 use Rattle.redlog_tokens.proofs.Lexemes.{past_space, past_token, to_end, at_end}
 use Rattle.redlog_tokens.proofs.Scanned.{tokens_more, bad_comes, tokens_end}

@@ -4,10 +4,10 @@ use Rattle.std.proofs.Math.ListN.{drop_of_length-le}
 use Rattle.std.proofs.lemmas.List.Sums.{sum_by-cons}
 use Rattle.std.specs.Prelude.{reverse, sum_by, if◌then◌else◌, ◌⊎◌}
 use Rattle.redlog_tokens.specs.declared.level.Levels.{Levels}
-use Rattle.redlog_tokens.specs.declared.terminal.Terminal.{Terminal}
-use Rattle.redlog_tokens.specs.declared.terminal.Terminal.TheVariants as terminal
-use Rattle.redlog_tokens.specs.declared.terminal.Word.TheVariants as word
-use Rattle.redlog_tokens.specs.Levels.{weight, change_of, changed, groups, run, run_before, level, Passes}
+use Rattle.language_meaning.specs.declared.terminal.Terminal.{Terminal}
+use Rattle.language_meaning.specs.declared.terminal.Terminal.TheVariants as terminal
+use Rattle.language_meaning.specs.declared.terminal.Word.TheVariants as word
+use Rattle.language_meaning.specs.Levels.{weight, change_of, changed, groups, run, run_before, level, Passes}
 use Rattle.redlog_tokens.specs.Counting.{count, stack, IsTotal, IsSmall, AreLevels, is_binder, is_of_run}
 
 run_is : (t : Terminal) (before : List Terminal) (r : ℕ) → r ≡ run before → (if is_of_run t then r + 1 else 0) ≡ run (t ∷ before)

@@ -1,9 +1,9 @@
 -- Each script is cut.
 use Rattle.std.proofs.Common.{◌≡◌, ℕ, Bool, true, false, List, [], ◌∷◌, length, drop, refl, inl, inr}
 use Rattle.std.specs.Prelude.{◌⊎◌}
-use Rattle.redlog_tokens.specs.declared.lexer.Lexeme.{Lexeme}
-use Rattle.redlog_tokens.specs.Lexing.{LexesFrom}
-use Rattle.redlog_tokens.specs.Pieces.{HasNoTokenFrom, IsPiece, Cuts, is_end, last, marked, inside}
+use Rattle.language_meaning.specs.declared.lexer.Lexeme.{Lexeme}
+use Rattle.language_meaning.specs.Lexing.{LexesFrom}
+use Rattle.language_meaning.specs.Pieces.{HasNoTokenFrom, IsPiece, Cuts, is_end, last, marked, inside}
 use Rattle.redlog_tokens.proofs.Lexed.{lexed}
 use Rattle.redlog_tokens.proofs.PieceLemmas.{one_start, one_piece_end, no_piece}
 

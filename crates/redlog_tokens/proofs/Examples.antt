@@ -1,19 +1,19 @@
 -- Worked examples of the definitions. Each side is computed.
 use Rattle.std.proofs.Common.{◌≡◌, [], ◌∷◌, refl, codes}
 use Rattle.std.specs.Prelude.{ℕ, ◌++◌, length, map, pos, Some, None, List}
-use Rattle.qe_syntax.specs.declared.tree.Literal.TheVariants.{Fits}
-use Rattle.qe_syntax.specs.declared.tree.Relation.TheVariants.{Equal, Differs, Less, AtMost, Greater, AtLeast}
-use Rattle.qe_syntax.specs.Names.{is_word, keywords}
-use Rattle.redlog_tokens.specs.declared.lexer.Front.{Front}
-use Rattle.redlog_tokens.specs.declared.lexer.Front.TheVariants as found
-use Rattle.redlog_tokens.specs.declared.token.TokenKind.TheVariants as token
-use Rattle.redlog_tokens.specs.declared.terminal.Terminal.{Terminal}
-use Rattle.redlog_tokens.specs.declared.terminal.Terminal.TheVariants as terminal
-use Rattle.redlog_tokens.specs.declared.terminal.Mark.TheVariants as mark
-use Rattle.redlog_tokens.specs.declared.terminal.Word.TheVariants as word
-use Rattle.redlog_tokens.specs.Lexing.{front, literal_of, long_signs, short_signs, signed, worded}
-use Rattle.redlog_tokens.specs.Levels.{level, groups}
-use Rattle.redlog_tokens.specs.Terminals.{sign_of, word_of}
+use Rattle.language_meaning.specs.declared.tree.Literal.TheVariants.{Fits}
+use Rattle.language_meaning.specs.declared.tree.Relation.TheVariants.{Equal, Differs, Less, AtMost, Greater, AtLeast}
+use Rattle.language_meaning.specs.Names.{is_word, keywords}
+use Rattle.language_meaning.specs.declared.lexer.Front.{Front}
+use Rattle.language_meaning.specs.declared.lexer.Front.TheVariants as found
+use Rattle.language_meaning.specs.declared.token.TokenKind.TheVariants as token
+use Rattle.language_meaning.specs.declared.terminal.Terminal.{Terminal}
+use Rattle.language_meaning.specs.declared.terminal.Terminal.TheVariants as terminal
+use Rattle.language_meaning.specs.declared.terminal.Mark.TheVariants as mark
+use Rattle.language_meaning.specs.declared.terminal.Word.TheVariants as word
+use Rattle.language_meaning.specs.Lexing.{front, literal_of, long_signs, short_signs, signed, worded}
+use Rattle.language_meaning.specs.Levels.{level, groups}
+use Rattle.language_meaning.specs.Terminals.{sign_of, word_of}
 
 -- 12x begins with the number 12
 number : front 49 (codes "2x") ≡ found.Token (Some (token.Number (Fits (pos 12)))) 2

@@ -2,9 +2,9 @@
 use Rattle.std.proofs.Common.{◌≡◌, ℕ, Bool, true, false, List, [], ◌∷◌, length, map, sym, refl, ap, ◌∙◌, subst, arith}
 use Rattle.std.specs.Prelude.{◌==◌, ◌||◌, Option, Some, is_some, filter, bytes_eq, if◌then◌else◌}
 use Rattle.std.proofs.lemmas.Slice.Eq.{bytes_eq-Decides}
-use Rattle.qe_syntax.specs.Names.{is_one_of, keywords}
-use Rattle.redlog_tokens.specs.declared.terminal.Word.{Word}
-use Rattle.redlog_tokens.specs.Terminals.{words, known}
+use Rattle.language_meaning.specs.Names.{is_one_of, keywords}
+use Rattle.language_meaning.specs.declared.terminal.Word.{Word}
+use Rattle.language_meaning.specs.Terminals.{words, known}
 
 is_same : (n : ℕ) → (n == n) ≡ true
 is_same n = grind arith

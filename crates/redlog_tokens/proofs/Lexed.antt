@@ -2,17 +2,17 @@
 use Rattle.std.proofs.Common.{◌≡◌, ℕ, zero, suc, ◌+◌, ◌<◌, ◌≤◌, Bool, true, false, List, [], ◌∷◌, map, length, take, drop, sym, refl, ap, ◌∙◌, subst, inl, inr, arith, length-drop}
 use Rattle.std.specs.Prelude.{Option, Some, None, ◌==◌, if◌then◌else◌}
 use Rattle.std.specs.List.{prefix_len}
-use Rattle.redlog_tokens.specs.declared.lexer.Front.{Front}
-use Rattle.redlog_tokens.specs.declared.lexer.Front.TheVariants as found
-use Rattle.redlog_tokens.specs.declared.lexer.Lexeme.{Lexeme}
-use Rattle.redlog_tokens.specs.Terminals.{terminal_of}
+use Rattle.language_meaning.specs.declared.lexer.Front.{Front}
+use Rattle.language_meaning.specs.declared.lexer.Front.TheVariants as found
+use Rattle.language_meaning.specs.declared.lexer.Lexeme.{Lexeme}
+use Rattle.language_meaning.specs.Terminals.{terminal_of}
 use Rattle.redlog_tokens.specs.TerminalList.{terminals}
 use Rattle.redlog_tokens.specs.declared.token.Token.{Token}
-use Rattle.redlog_tokens.specs.declared.token.TokenKind.{TokenKind}
-use Rattle.redlog_tokens.specs.declared.token.TokenKind.TheVariants as token
-use Rattle.redlog_tokens.specs.Lexing.{is_blank, is_in_line, long_signs, short_signs, worded, signed, literal_of, front, Lexes, over, spaced, taken, SomeBad}
+use Rattle.language_meaning.specs.declared.token.TokenKind.{TokenKind}
+use Rattle.language_meaning.specs.declared.token.TokenKind.TheVariants as token
+use Rattle.language_meaning.specs.Lexing.{is_blank, is_in_line, long_signs, short_signs, worded, signed, literal_of, front, Lexes, over, spaced, taken, SomeBad}
 use Rattle.redlog_tokens.specs.Longest.{size, lexeme_of}
-use Rattle.qe_syntax.specs.Names.{is_digit, is_letter, is_name_part, is_one_of}
+use Rattle.language_meaning.specs.Names.{is_digit, is_letter, is_name_part, is_one_of}
 
 space_apart : {f : Front} {kind : Option TokenKind} {m n : ℕ} → f ≡ found.Space n → f ≡ found.Token kind m → ⊥
 space_apart e g = cc

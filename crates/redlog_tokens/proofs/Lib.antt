@@ -9,3 +9,7 @@ pub mod Scanned
 pub mod AheadLemmas
 pub mod Cutting
 pub mod Examples
+pub mod Spans
+pub mod Fronts
+pub mod Places
+pub mod Following

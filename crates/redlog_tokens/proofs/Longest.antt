@@ -3,9 +3,9 @@ use Rattle.std.proofs.Common.{◌≡◌, ℕ, zero, suc, ◌+◌, ◌≤◌, Boo
 use Rattle.std.specs.Prelude.{cond, not, ◌&&◌, ◌||◌, ◌==◌, ◌⊎◌, bytes_eq}
 use Rattle.std.specs.List.{prefix_len, list_all}
 use Rattle.std.specs.Cmp.Lexicographic.{bytes_decides}
-use Rattle.qe_syntax.specs.Names.{is_digit, is_letter, is_name_part, is_one_of}
-use Rattle.redlog_tokens.specs.declared.lexer.Lexeme.{Lexeme}
-use Rattle.redlog_tokens.specs.Lexing.{is_blank, long_signs, short_signs, signed, front, Lexes, over, spaced, taken}
+use Rattle.language_meaning.specs.Names.{is_digit, is_letter, is_name_part, is_one_of}
+use Rattle.language_meaning.specs.declared.lexer.Lexeme.{Lexeme}
+use Rattle.language_meaning.specs.Lexing.{is_blank, long_signs, short_signs, signed, front, Lexes, over, spaced, taken}
 use Rattle.redlog_tokens.specs.Longest.{size, BeginWithToken, IsLongest, AreLongest}
 use Rattle.redlog_tokens.proofs.Lexed.{front_size}
 

@@ -1,8 +1,8 @@
 -- How the pieces of a script follow from its tokens.
 use Rattle.std.proofs.Common.{◌≡◌, ℕ, ◌-◌, true, false, List, [], ◌∷◌, length, take, drop, sym, refl, ap, ◌∙◌, subst}
-use Rattle.redlog_tokens.specs.declared.lexer.Lexeme.{Lexeme}
-use Rattle.redlog_tokens.specs.Lexing.{LexesFrom}
-use Rattle.redlog_tokens.specs.Pieces.{is_end, Cuts, last, marked, inside, HasNoTokenFrom, IsPiece}
+use Rattle.language_meaning.specs.declared.lexer.Lexeme.{Lexeme}
+use Rattle.language_meaning.specs.Lexing.{LexesFrom}
+use Rattle.language_meaning.specs.Pieces.{is_end, Cuts, last, marked, inside, HasNoTokenFrom, IsPiece}
 use Rattle.redlog_tokens.specs.OnePiece.{EndsFrom, HasNoToken, IsOnlyPiece, HasMorePieces}
 use Rattle.redlog_tokens.proofs.Lexed.{lexed, same_lexemes}
 

@@ -2,24 +2,23 @@
 use Rattle.std.proofs.Common.{◌≡◌, ℕ, suc, ◌+◌, ◌^◌, Bool, true, false, List, [], ◌∷◌, map, length, take, sym, refl, ap, ◌∙◌, subst, arith, rules}
 use Rattle.std.specs.Prelude.{cond, ◌&&◌, ◌||◌, nat_lt, pos, Option, Some, None, ◌==◌, if◌then◌else◌}
 use Rattle.std.specs.List.{prefix_len, list_all}
-use Rattle.qe_syntax.specs.declared.tree.Literal.TheVariants.{Fits, Past}
-use Rattle.qe_syntax.specs.Names.{IsVariable, begins_with_letter, is_word}
-use Rattle.qe_syntax.specs.Proper.{IsNumeral}
+use Rattle.language_meaning.specs.declared.tree.Literal.TheVariants.{Fits, Past}
+use Rattle.language_meaning.specs.Names.{IsVariable, begins_with_letter, is_word, is_digit, is_letter, is_name_part}
+use Rattle.written_syntax.specs.Proper.{IsNumeral}
 use Rattle.std.proofs.lemmas.Bool.{ltb-false}
-use Rattle.redlog_tokens.specs.declared.lexer.Front.{Front}
-use Rattle.redlog_tokens.specs.declared.lexer.Front.TheVariants as found
-use Rattle.redlog_tokens.specs.declared.lexer.Lexeme.{Lexeme}
+use Rattle.language_meaning.specs.declared.lexer.Front.{Front}
+use Rattle.language_meaning.specs.declared.lexer.Front.TheVariants as found
+use Rattle.language_meaning.specs.declared.lexer.Lexeme.{Lexeme}
 use Rattle.std.proofs.lemmas.Int.{ints}
-use Rattle.redlog_tokens.specs.declared.terminal.Terminal.{Terminal}
-use Rattle.redlog_tokens.specs.declared.terminal.Terminal.TheVariants as terminal
-use Rattle.redlog_tokens.specs.Terminals.{terminal_of, sign_of}
+use Rattle.language_meaning.specs.declared.terminal.Terminal.{Terminal}
+use Rattle.language_meaning.specs.declared.terminal.Terminal.TheVariants as terminal
+use Rattle.language_meaning.specs.Terminals.{terminal_of, sign_of}
 use Rattle.redlog_tokens.specs.TerminalList.{terminals}
 use Rattle.redlog_tokens.specs.declared.token.Token.{Token}
-use Rattle.redlog_tokens.specs.declared.token.TokenKind.{TokenKind}
-use Rattle.redlog_tokens.specs.declared.token.TokenKind.TheVariants as token
-use Rattle.redlog_tokens.specs.Lexing.{is_blank, worded, signed, value_after, literal_of, front, Lexes, over, spaced, taken}
+use Rattle.language_meaning.specs.declared.token.TokenKind.{TokenKind}
+use Rattle.language_meaning.specs.declared.token.TokenKind.TheVariants as token
+use Rattle.language_meaning.specs.Lexing.{is_blank, worded, signed, value_after, literal_of, front, Lexes, over, spaced, taken}
 use Rattle.redlog_tokens.specs.Longest.{lexeme_of, AreTokens}
-use Rattle.qe_syntax.specs.Names.{is_digit, is_letter, is_name_part}
 use Rattle.redlog_tokens.proofs.Lexed.{of_sign, kinds_head, kinds_tail}
 
 -- each number is a numeral, and each name a variable

@@ -1,9 +1,9 @@
 -- The tokens so far of bytes.
 use Rattle.std.proofs.Common.{◌≡◌, ℕ, List, [], ◌∷◌, ◌++◌, map, drop, sym, refl, ap, ◌∙◌, subst, inl, inr}
 use Rattle.std.specs.Prelude.{None}
-use Rattle.redlog_tokens.specs.declared.lexer.Lexeme.{Lexeme}
+use Rattle.language_meaning.specs.declared.lexer.Lexeme.{Lexeme}
 use Rattle.redlog_tokens.specs.declared.token.Token.{Token}
-use Rattle.redlog_tokens.specs.Lexing.{Lexes, LexesFrom, SomeBad, IsLexical}
+use Rattle.language_meaning.specs.Lexing.{Lexes, LexesFrom, SomeBad, IsLexical}
 use Rattle.redlog_tokens.specs.Longest.{lexeme_of, AreTokens}
 use Rattle.redlog_tokens.proofs.Lexed.{lexed}
 

@@ -2,14 +2,14 @@
 use Rattle.std.specs.Prelude.{◌≡◌, ℕ, List, [], ◌∷◌, Option, Some, None}
 use Rattle.redlog_tokens.specs.declared.ahead.Ahead.{Ahead}
 use Rattle.redlog_tokens.specs.declared.ahead.Ahead.TheVariants as ahead
-use Rattle.redlog_tokens.specs.declared.lexer.Front.{Front}
-use Rattle.redlog_tokens.specs.declared.lexer.Front.TheVariants as found
-use Rattle.redlog_tokens.specs.declared.terminal.Terminal.{Terminal}
+use Rattle.language_meaning.specs.declared.lexer.Front.{Front}
+use Rattle.language_meaning.specs.declared.lexer.Front.TheVariants as found
+use Rattle.language_meaning.specs.declared.terminal.Terminal.{Terminal}
 use Rattle.redlog_tokens.specs.declared.token.Token.{Token}
-use Rattle.redlog_tokens.specs.declared.token.TokenKind.{TokenKind}
-use Rattle.redlog_tokens.specs.Lexing.{front}
+use Rattle.language_meaning.specs.declared.token.TokenKind.{TokenKind}
+use Rattle.language_meaning.specs.Lexing.{front}
 use Rattle.redlog_tokens.specs.Longest.{AreTokens}
-use Rattle.redlog_tokens.specs.Terminals.{terminal_of}
+use Rattle.language_meaning.specs.Terminals.{terminal_of}
 use Rattle.redlog_tokens.specs.TerminalList.{terminals}
 
 -- the terminal that a token is; a bad one is none

@@ -1,11 +1,11 @@
 -- What the count of levels keeps of the tokens so far.
 use Rattle.std.specs.Prelude.{◌≡◌, ℕ, ◌+◌, ◌≤◌, Bool, true, false, List, ◌∷◌, reverse, sum_by}
-use Rattle.redlog_tokens.specs.declared.level.Group.{Group}
+use Rattle.language_meaning.specs.declared.level.Group.{Group}
 use Rattle.redlog_tokens.specs.declared.level.Levels.{Levels}
-use Rattle.redlog_tokens.specs.declared.terminal.Terminal.{Terminal}
-use Rattle.redlog_tokens.specs.declared.terminal.Terminal.TheVariants as terminal
-use Rattle.redlog_tokens.specs.declared.terminal.Word.TheVariants as word
-use Rattle.redlog_tokens.specs.Levels.{weight, groups, run, run_before}
+use Rattle.language_meaning.specs.declared.terminal.Terminal.{Terminal}
+use Rattle.language_meaning.specs.declared.terminal.Terminal.TheVariants as terminal
+use Rattle.language_meaning.specs.declared.terminal.Word.TheVariants as word
+use Rattle.language_meaning.specs.Levels.{weight, groups, run, run_before}
 
 -- the level of the last token
 abbrev pub count : Levels → ℕ

@@ -1,9 +1,7 @@
-pub mod Terminals
 pub mod TerminalList
-pub mod Lexing
 pub mod Longest
 pub mod Ahead
-pub mod Pieces
 pub mod OnePiece
-pub mod Levels
 pub mod Counting
+pub mod Spans
+pub mod Pieces

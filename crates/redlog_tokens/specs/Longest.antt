@@ -1,15 +1,15 @@
 -- Tokens said another way: each is the longest at its place. That this is the same is proved.
 use Rattle.std.specs.Prelude.{◌≡◌, ℕ, ◌+◌, ◌≤◌, Bool, false, true, ◌&&◌, ◌||◌, List, [], ◌∷◌, length, map, take, drop, Some}
 use Rattle.std.specs.List.{list_all}
-use Rattle.qe_syntax.specs.Names.{is_digit, is_letter, is_name_part, is_one_of}
-use Rattle.redlog_tokens.specs.declared.lexer.Front.{Front}
-use Rattle.redlog_tokens.specs.declared.lexer.Front.TheVariants as found
-use Rattle.redlog_tokens.specs.declared.lexer.Lexeme.{Lexeme}
+use Rattle.language_meaning.specs.Names.{is_digit, is_letter, is_name_part, is_one_of}
+use Rattle.language_meaning.specs.declared.lexer.Front.{Front}
+use Rattle.language_meaning.specs.declared.lexer.Front.TheVariants as found
+use Rattle.language_meaning.specs.declared.lexer.Lexeme.{Lexeme}
 use Rattle.redlog_tokens.specs.declared.token.Token.{Token}
-use Rattle.redlog_tokens.specs.declared.token.ReadError.{ReadError}
-use Rattle.redlog_tokens.specs.declared.token.ReadError.TheVariants as cause
-use Rattle.redlog_tokens.specs.declared.token.TokenKind.TheVariants as token
-use Rattle.redlog_tokens.specs.Lexing.{long_signs, short_signs, front, Lexes}
+use Rattle.language_meaning.specs.declared.token.ReadError.{ReadError}
+use Rattle.language_meaning.specs.declared.token.ReadError.TheVariants as cause
+use Rattle.language_meaning.specs.declared.token.TokenKind.TheVariants as token
+use Rattle.language_meaning.specs.Lexing.{long_signs, short_signs, front, Lexes}
 
 -- the number of bytes of what stands at the front
 abbrev pub size : Front → ℕ

@@ -1,9 +1,9 @@
 -- The first piece of a script, when it is the only one, and when others follow.
 use Rattle.std.specs.Prelude.{◌≡◌, ℕ, ◌-◌, List, length, take, drop}
-use Rattle.redlog_tokens.specs.declared.lexer.Lexeme.{Lexeme}
-use Rattle.redlog_tokens.specs.declared.token.TokenKind.TheVariants as token
-use Rattle.redlog_tokens.specs.Lexing.{LexesFrom}
-use Rattle.redlog_tokens.specs.Pieces.{Cuts, HasNoTokenFrom, IsPiece}
+use Rattle.language_meaning.specs.declared.lexer.Lexeme.{Lexeme}
+use Rattle.language_meaning.specs.declared.token.TokenKind.TheVariants as token
+use Rattle.language_meaning.specs.Lexing.{LexesFrom}
+use Rattle.language_meaning.specs.Pieces.{Cuts, HasNoTokenFrom, IsPiece}
 
 -- a piece that goes on at this place, or begins there or later, ends at end
 pub record EndsFrom (script : List ℕ) (from end : ℕ) : Type 0 where

@@ -1,33 +1,58 @@
--- How a script is cut into pieces: after each token ; or $.
-use Rattle.std.specs.Prelude.{◌≡◌, ℕ, Bool, true, false, ◌||◌, List, [], ◌∷◌, length, codes, bytes_eq, Option, Some, None}
-use Rattle.redlog_tokens.specs.declared.lexer.Lexeme.{Lexeme}
-use Rattle.redlog_tokens.specs.declared.token.TokenKind.{TokenKind}
-use Rattle.redlog_tokens.specs.declared.token.TokenKind.TheVariants as token
-use Rattle.redlog_tokens.specs.Lexing.{LexesFrom}
+-- What a splitter holds of a script, and what it hands out.
+use Rattle.std.specs.Prelude.{◌≡◌, ℕ, ◌+◌, ◌<◌, ◌≤◌, Bool, true, false, List, [], ◌++◌, length, drop, Option, Some, None}
+use Rattle.std.specs.declared.alloc.Global.{Global}
+use Rattle.std.specs.declared.vec.Vec.{Vec}
+use Rattle.language_meaning.specs.Pieces.{IsPiece}
+use Rattle.redlog_tokens.specs.declared.span.Passed.TheVariants.{Between, Inside}
+use Rattle.redlog_tokens.specs.declared.splitter.Cut.{Cut}
+use Rattle.redlog_tokens.specs.declared.splitter.TheConstants.{PIECE_LIMIT}
+use Rattle.redlog_tokens.specs.Spans.{span, comment_after}
 
--- the token ends a piece
-abbrev pub is_end : Option TokenKind → Bool
-is_end (Some (token.Sign text)) = bytes_eq text (codes ";") || bytes_eq text (codes "$")
-is_end (Some (token.Number n)) = false
-is_end (Some (token.Name x)) = false
-is_end (Some (token.Word w)) = false
-is_end None = false
+-- what is seen of a splitter
+pub record Held : Type 0 where
+  -- the bytes of the piece that has begun, where they are within the limit
+  pub bytes : List ℕ
+  -- how many bytes it was fed
+  pub fed : ℕ
+  -- the offset of the first token of that piece, or of the bytes to come where it has none
+  pub start : ℕ
+  -- a comment is open
+  pub comment : Bool
+  -- an end mark has ended the piece
+  pub whole : Bool
 
--- a piece of these tokens ends at this place, and these tokens come after it; the script has this length
-pub data Cuts : ℕ → List Lexeme → ℕ → List Lexeme → Type 0 where
-  last : {total : ℕ} → Cuts total [] total []
-  marked : {total : ℕ} {t : Lexeme} {ts : List Lexeme} → is_end t.kind ≡ true → Cuts total (t ∷ ts) t.end ts
-  inside : {total end : ℕ} {t : Lexeme} {ts rest : List Lexeme} → is_end t.kind ≡ false → Cuts total ts end rest → Cuts total (t ∷ ts) end rest
+-- the last of these bytes, and no other, is an end mark outside of comments, or none is
+abbrev pub IsMarked : List ℕ → Bool → Type 0
+IsMarked bytes true = span Inside false bytes + 1 ≡ length bytes
+IsMarked bytes false = span Inside false bytes ≡ length bytes
 
--- no token stands from this place on
-abbrev pub HasNoTokenFrom : List ℕ → ℕ → Type 0
-HasNoTokenFrom script from = LexesFrom script from []
+-- what is held of a piece: all of it within the limit, and nothing past it
+pub record IsKept (piece bytes : List ℕ) : Type 0 where
+  pub within : length piece ≤ PIECE_LIMIT → bytes ≡ piece
+  pub past : PIECE_LIMIT < length piece → bytes ≡ []
 
--- the first token from this place on stands at start, and its piece ends at end
-pub record IsPiece (script : List ℕ) (from start end : ℕ) : Type 0 where
-  pub first : Lexeme
-  pub others : List Lexeme
-  pub rest : List Lexeme
-  pub tokens : LexesFrom script from (first ∷ others)
-  pub begins : first.start ≡ start
-  pub cut : Cuts (length script) (first ∷ others) end rest
+-- The splitter was fed these bytes, and the pieces of those up to a place were handed out.
+pub record Follows (fed : List ℕ) (from : ℕ) (s : Held) : Type 0 where
+  pub count : s.fed ≡ length fed
+  pub within : from ≤ length fed
+  pub comment : s.comment ≡ comment_after false (drop from fed)
+  pub mark : IsMarked (drop from fed) s.whole
+  pub start : s.start ≡ from + span Between false (drop from fed)
+  pub kept : IsKept (drop s.start fed) s.bytes
+
+-- the bytes of a piece are handed out where they are within the limit
+abbrev pub HasBytes : List ℕ → Option (Vec ℕ Global) → Type 0
+HasBytes piece None = PIECE_LIMIT < length piece
+HasBytes piece (Some bytes) = (bytes.items ≡ piece) × (length piece ≤ PIECE_LIMIT)
+
+-- The next piece begins at the offset of the cut and ends with these bytes, whatever comes after them.
+pub record CutsOff (fed : List ℕ) (from : ℕ) (cut : Cut) : Type 0 where
+  pub begins : cut.offset < length fed
+  pub piece : (more : List ℕ) → IsPiece (fed ++ more) from cut.offset (length fed)
+  pub bytes : HasBytes (drop cut.offset fed) cut.bytes
+
+-- The last piece of these bytes begins at the offset of the cut.
+pub record IsLast (fed : List ℕ) (from : ℕ) (cut : Cut) : Type 0 where
+  pub begins : cut.offset < length fed
+  pub piece : IsPiece fed from cut.offset (length fed)
+  pub bytes : HasBytes (drop cut.offset fed) cut.bytes

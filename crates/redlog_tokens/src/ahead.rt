@@ -1,7 +1,7 @@
 //! The tokens of bytes as the grammar names them.
 
 ghost use Rattle.std.specs.Prelude.{◌≡◌, ◌<◌, ◌≤◌, [], ◌∷◌, length, IfOk, IfErr, IfSome, MatchOption};
-ghost use Rattle.redlog_tokens.specs.Lexing.{worded, signed, front, IsLexical};
+ghost use Rattle.language_meaning.specs.Lexing.{worded, signed, front, IsLexical};
 ghost use Rattle.redlog_tokens.specs.Longest.{LexicalWhere};
 ghost use Rattle.redlog_tokens.specs.Ahead.{named, seen, size_ahead, IsAhead, AreTerminals};
 
@@ -9,9 +9,9 @@ use crate::lexer::{
     digits, is_blank, is_digit, is_letter, is_long_sign, is_short_sign, is_word, line, literal,
     name_parts,
 };
-use crate::terminal::{Terminal, sign_of, word_of};
-use crate::token::ReadError;
-use qe_syntax::Name;
+use crate::terminal::{sign_of, word_of};
+use language_meaning::{ReadError, Terminal};
+use logic_meaning::Name;
 use std::alloc::Global;
 
 /// What stands at the front of a text, with the number of its bytes: a blank or a comment, or a token as the grammar names it. A bad
@@ -55,7 +55,7 @@ fn ahead_of(bytes: &[u8]) -> Option<Ahead>
 }
 
 /// What stands at the front of the bytes, which are `first` and `rest`.
-#[tactic(auto, unfolding(crate::specs::Lexing::front))]
+#[tactic(auto, unfolding(language_meaning::specs::Lexing::front))]
 fn ahead_at(bytes: &[u8], first: u8, rest: &[u8]) -> Ahead
     requires { bytes.now ≡ first ∷ rest.now }
     ensures some { 0 < size_ahead result }
@@ -81,7 +81,7 @@ fn ahead_at(bytes: &[u8], first: u8, rest: &[u8]) -> Ahead
 }
 
 /// A name or a word; none where it has more than 64 bytes.
-#[tactic(auto, unfolding(crate::specs::Lexing::worded))]
+#[tactic(auto, unfolding(language_meaning::specs::Lexing::worded))]
 fn word_or_name(text: &[u8]) -> Option<Terminal>
     requires { 0 < length text.now }
     ensures { result ≡ named (worded text.now) }
@@ -97,7 +97,7 @@ fn word_or_name(text: &[u8]) -> Option<Terminal>
 }
 
 /// The sign at the front, the longer one first; any other byte is bad.
-#[tactic(auto, unfolding(crate::specs::Lexing::signed))]
+#[tactic(auto, unfolding(language_meaning::specs::Lexing::signed))]
 fn sign_ahead(bytes: &[u8]) -> Ahead
     requires { 0 < length bytes.now }
     ensures some { 0 < size_ahead result }

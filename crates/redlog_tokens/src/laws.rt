@@ -1,9 +1,9 @@
 //! Laws of tokens and pieces, each the contract of a function with an empty body, so that the check proves it.
 ghost use Rattle.std.specs.Prelude.{◌≡◌, ℕ, ◌⊎◌, List};
-ghost use Rattle.redlog_tokens.specs.declared.lexer.Lexeme.{Lexeme};
-ghost use Rattle.redlog_tokens.specs.Lexing.{Lexes};
+ghost use Rattle.language_meaning.specs.declared.lexer.Lexeme.{Lexeme};
+ghost use Rattle.language_meaning.specs.Lexing.{Lexes};
 ghost use Rattle.redlog_tokens.specs.Longest.{AreLongest};
-ghost use Rattle.redlog_tokens.specs.Pieces.{HasNoTokenFrom, IsPiece};
+ghost use Rattle.language_meaning.specs.Pieces.{HasNoTokenFrom, IsPiece};
 
 /// No longer token begins at the place of one that the bytes spell.
 pub fn longest_tokens()

@@ -1,22 +1,11 @@
 ghost use Rattle.std.specs.Prelude.{◌≡◌, suc, ◌+◌, ◌≤◌, List, [], ◌∷◌, IfOk, OnOk, if◌then◌else◌};
 ghost use Rattle.std.specs.Bool.{MatchBool};
-ghost use Rattle.redlog_tokens.specs.declared.terminal.Terminal.{Terminal};
-ghost use Rattle.redlog_tokens.specs.Levels.{weight, after, change_of, changed, closing, Passes};
+ghost use Rattle.language_meaning.specs.declared.terminal.Terminal.{Terminal};
+ghost use Rattle.language_meaning.specs.Levels.{weight, after, change_of, changed, closing, Passes};
 ghost use Rattle.redlog_tokens.specs.Counting.{AreLevels, IsSmall, IsTotal, stack, count, is_binder, is_of_run};
 
-use crate::terminal::{Mark, Terminal, Word};
+use language_meaning::{Change, Group, LEVEL_LIMIT, Mark, Terminal, Word};
 use std::alloc::{AllocError, Global};
-
-/// No level of a token passes this.
-pub const LEVEL_LIMIT: usize = 512;
-
-/// What counts in an open group of brackets.
-#[derive(Clone, Copy)]
-pub struct Group {
-    pub opened: usize,
-    pub arrows: usize,
-    pub slashes: usize,
-}
 
 /// What the tokens so far leave open.
 #[derive(Drop)]
@@ -149,14 +138,6 @@ impl Levels {
             None => self.inmost.slashes = 0,
         }
     }
-}
-
-/// How a token changes the open groups.
-#[derive(Clone, Copy)]
-pub enum Change {
-    Opens,
-    Closes,
-    Inside,
 }
 
 /// How the token changes the open groups.

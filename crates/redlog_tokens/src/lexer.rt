@@ -1,32 +1,16 @@
 ghost use Rattle.std.specs.Prelude.{◌≡◌, ◌+◌, ◌<◌, ◌≤◌, List, [], ◌∷◌, length, IfSome, MatchOption};
 ghost use Rattle.std.specs.List.{prefix_len, list_all};
-ghost use Rattle.redlog_tokens.specs.declared.lexer.Lexeme.{Lexeme};
-ghost use Rattle.redlog_tokens.specs.Lexing.{is_blank, is_in_line, long_signs, short_signs, value_after, as_literal, literal_of, worded, signed, front, LexesFrom};
+ghost use Rattle.language_meaning.specs.declared.lexer.Lexeme.{Lexeme};
+ghost use Rattle.language_meaning.specs.Lexing.{is_blank, is_in_line, long_signs, short_signs, value_after, as_literal, literal_of, worded, signed, front, LexesFrom};
 ghost use Rattle.redlog_tokens.specs.Longest.{IsFront, size};
-ghost use Rattle.qe_syntax.specs.Names.{is_digit, is_letter, is_name_part, is_one_of, is_numbered, is_word};
+ghost use Rattle.language_meaning.specs.Names.{is_digit, is_letter, is_name_part, is_one_of, is_numbered, is_word};
 
-use crate::token::TokenKind;
 use crate::words::{is, is_keyword};
-use qe_syntax::{Literal, Name};
+use language_meaning::{Front, Lexeme, Literal, TokenKind};
+use logic_meaning::Name;
 
 /// The greatest number that a literal keeps.
 pub const LITERAL_LIMIT: u128 = (1 << 127) - 1;
-
-/// What stands at the front of a text, with the number of its bytes: a blank or a comment, or a token. A bad
-/// token has no kind.
-#[derive(Clone, Copy)]
-pub enum Front {
-    Space(usize),
-    Token(Option<TokenKind>, usize),
-}
-
-/// A token with its place, from `start` up to `end`. A bad one has no kind.
-#[derive(Clone, Copy)]
-pub struct Lexeme {
-    pub kind: Option<TokenKind>,
-    pub start: usize,
-    pub end: usize,
-}
 
 /// The first token from `from` on.
 pub fn next_lexeme(bytes: &[u8], from: usize) -> Option<Lexeme>
@@ -61,7 +45,7 @@ fn front_of(bytes: &[u8]) -> Option<Front>
 }
 
 /// What stands at the front of the bytes, which are `first` and `rest`.
-#[tactic(auto, unfolding(crate::specs::Lexing::front))]
+#[tactic(auto, unfolding(language_meaning::specs::Lexing::front))]
 fn front_at(bytes: &[u8], first: u8, rest: &[u8]) -> Front
     requires { bytes.now ≡ first ∷ rest.now }
     ensures some { 0 < size result }
@@ -111,7 +95,7 @@ pub(crate) fn name_parts(bytes: &[u8]) -> usize
 }
 
 /// The number that decimal digits say.
-#[tactic(auto, unfolding(crate::specs::Lexing::literal_of))]
+#[tactic(auto, unfolding(language_meaning::specs::Lexing::literal_of))]
 pub fn literal(digits: &[u8]) -> Literal
     ensures { result ≡ literal_of digits.now }
 {
@@ -136,7 +120,7 @@ pub fn literal_after(before: u128, digits: &[u8]) -> Literal
 }
 
 /// A name or a word; none where it has more than 64 bytes.
-#[tactic(auto, unfolding(crate::specs::Lexing::worded))]
+#[tactic(auto, unfolding(language_meaning::specs::Lexing::worded))]
 fn worded(text: &[u8]) -> Option<TokenKind>
     requires { 0 < length text.now }
     ensures { result ≡ worded text.now }
@@ -153,7 +137,7 @@ fn worded(text: &[u8]) -> Option<TokenKind>
 }
 
 /// Whether a name stands for no variable.
-#[tactic(auto, unfolding(qe_syntax::specs::Names::is_word))]
+#[tactic(auto, unfolding(language_meaning::specs::Names::is_word))]
 pub(crate) fn is_word(text: &[u8]) -> bool
     ensures { result ≡ is_word text.now }
 {
@@ -204,7 +188,7 @@ pub(crate) fn is_short_sign(text: &[u8]) -> bool
 }
 
 /// The sign at the front, the longer one first; any other byte is bad.
-#[tactic(auto, unfolding(crate::specs::Lexing::signed))]
+#[tactic(auto, unfolding(language_meaning::specs::Lexing::signed))]
 fn signed(bytes: &[u8]) -> Front
     requires { 0 < length bytes.now }
     ensures some { 0 < size result }

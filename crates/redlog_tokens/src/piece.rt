@@ -1,9 +1,9 @@
 ghost use Rattle.std.specs.Prelude.{◌≡◌, ◌<◌, ◌≤◌, ◌||◌, length, codes, bytes_eq, IfNone, IfSome};
-ghost use Rattle.redlog_tokens.specs.Pieces.{is_end, HasNoTokenFrom, IsPiece};
+ghost use Rattle.language_meaning.specs.Pieces.{is_end, HasNoTokenFrom, IsPiece};
 ghost use Rattle.redlog_tokens.specs.OnePiece.{EndsFrom};
 
 use crate::lexer::next_lexeme;
-use crate::token::TokenKind;
+use language_meaning::TokenKind;
 
 /// A piece of a script: its first token stands at `start`, and it ends before the byte `end`.
 #[derive(Clone, Copy, Debug)]

@@ -1,9 +1,10 @@
 ghost use Rattle.std.specs.Prelude.{IfOk, IfErr};
-ghost use Rattle.redlog_tokens.specs.Lexing.{IsLexical};
+ghost use Rattle.language_meaning.specs.Lexing.{IsLexical};
 ghost use Rattle.redlog_tokens.specs.Longest.{AreTokens, LexicalWhere};
 
 use crate::lexer::next_lexeme;
-use crate::token::{ReadError, Token, Tokens};
+use crate::token::{Token, Tokens};
+use language_meaning::ReadError;
 use std::alloc::Global;
 
 /// The tokens of the bytes, in order. `Lexical` says that a token is bad.

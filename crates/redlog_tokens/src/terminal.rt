@@ -1,80 +1,12 @@
 ghost use Rattle.std.specs.Prelude.{◌≡◌};
-ghost use Rattle.redlog_tokens.specs.Terminals.{word_of, sign_of};
+ghost use Rattle.language_meaning.specs.Terminals.{word_of, sign_of};
 
 use crate::words::known_word;
-use qe_syntax::{Literal, Name, Relation};
-
-/// A token as the grammar names it.
-#[derive(Clone, Copy)]
-pub enum Terminal {
-    Number(Literal),
-    Name(Name),
-    Relation(Relation),
-    Mark(Mark),
-    Word(Word),
-}
-
-/// A sign that is no relation. `Power` is `^` or `**`.
-#[derive(Clone, Copy, PartialEq, Eq)]
-pub enum Mark {
-    Plus,
-    Minus,
-    Times,
-    Slash,
-    Power,
-    Open,
-    Close,
-    OpenBrace,
-    CloseBrace,
-    Comma,
-    Semicolon,
-    Dollar,
-    Assign,
-}
-
-/// A word. `Other` is one that no statement begins with so far, or `infinity` or `epsilon` with a number.
-#[derive(Clone, Copy, PartialEq, Eq)]
-pub enum Word {
-    True,
-    False,
-    Not,
-    And,
-    Or,
-    Impl,
-    Repl,
-    Equiv,
-    Ex,
-    All,
-    Cong,
-    Ncong,
-    Neq,
-    Set,
-    Nnf,
-    Pnf,
-    Dnf,
-    Cnf,
-    Simpl,
-    Qe,
-    Qea,
-    Holds,
-    Witness,
-    Assume,
-    Retract,
-    Grid,
-    Cert,
-    Check,
-    Opt,
-    Load,
-    On,
-    Off,
-    End,
-    Bye,
-    Quit,
-    Other,
-}
+use language_meaning::{Literal, Mark, Relation, Terminal, Word};
+use logic_meaning::Name;
 
 /// The word that a text is.
-#[tactic(auto, unfolding(crate::specs::Terminals::word_of))]
+#[tactic(auto, unfolding(language_meaning::specs::Terminals::word_of))]
 pub(crate) fn word_of(word: &[u8]) -> Word
     ensures { result ≡ word_of word.now }
 {
@@ -82,7 +14,7 @@ pub(crate) fn word_of(word: &[u8]) -> Word
 }
 
 /// The terminal that a sign is.
-#[tactic(auto, unfolding(crate::specs::Terminals::sign_of))]
+#[tactic(auto, unfolding(language_meaning::specs::Terminals::sign_of))]
 pub(crate) fn sign_of(sign: &[u8]) -> Terminal
     ensures { result ≡ sign_of sign.now }
 {

@@ -1,9 +1,9 @@
 ghost use Rattle.std.specs.Prelude.{◌≡◌, ◌==◌, map, filter, length, is_some, bytes_eq};
-ghost use Rattle.qe_syntax.specs.Names.{keywords, is_one_of};
-ghost use Rattle.redlog_tokens.specs.Terminals.{words, known};
+ghost use Rattle.language_meaning.specs.Names.{keywords, is_one_of};
+ghost use Rattle.language_meaning.specs.Terminals.{words, known};
 ghost use Rattle.redlog_tokens.specs.TerminalList.{word_pair};
 
-use crate::terminal::Word;
+use language_meaning::Word;
 
 /// A word with what it is to the grammar.
 type Entry = (&'static str, Word);

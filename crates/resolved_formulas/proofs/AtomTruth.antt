@@ -3,17 +3,21 @@ use Rattle.std.proofs.Common.{◌≡◌, ◌<◌, ◌⊎◌, ◌↔◌, inl, inr
 use Rattle.std.proofs.Math.IntN.{ℤ, pos, neg_ℤ, ◌+ℤ◌, ◌-ℤ◌, ◌*ℤ◌}
 use Rattle.std.specs.Prelude.{◌<ℤ◌, unsigned_abs, Ok}
 use Rattle.std.proofs.lemmas.Int.{ints}
-use Rattle.qe_syntax.specs.FromExactNumbers.{Frac, IsProper, SameValue, whole_frac, true_sum, negated}
-use Rattle.qe_syntax.proofs.FromExactNumbers.{ring, mul_one, one_mul, mul_positive, cancel_positive, abs_sign, sign_abs}
-use Rattle.qe_syntax.specs.FromFormulaMeaning.{Context, Point, Relates}
-use Rattle.qe_syntax.specs.FromFormulaMeaning.form_rules as form
-use Rattle.qe_syntax.specs.FromFormulaMeaning.atom_rules as meaning
-use Rattle.qe_syntax.proofs.FromFormulaMeaning.{relates_along, relates_zero_mul, relates_difference}
-use Rattle.atom_normal.proofs.Relations.{chain, back}
-use Rattle.qe_syntax.specs.Trees.{TermTree}
-use Rattle.qe_syntax.specs.Value.{NamedPoint, HasName, value, IsCongruent}
-use Rattle.resolved_formulas.specs.FractionRule.{◌>>=◌}
-use Rattle.resolved_formulas.specs.RationalForms.{RationalForm, formed, formed_difference, sum_of_forms, opposite_form}
+use Rattle.exact_numbers.specs.Frac.{Frac, IsProper, SameValue, whole_frac, true_sum, negated}
+use Rattle.exact_numbers.proofs.Ring.{ring, mul_one, one_mul}
+use Rattle.exact_numbers.proofs.Order.{mul_positive, cancel_positive}
+use Rattle.exact_numbers.proofs.Divisibility.{abs_sign, sign_abs}
+use Rattle.logic_meaning.specs.Context.{Context}
+use Rattle.logic_meaning.specs.Point.{Point}
+use Rattle.logic_meaning.specs.Atom.{Relates}
+use Rattle.logic_meaning.specs.Form as form
+use Rattle.logic_meaning.specs.Atom as meaning
+use Rattle.formula_laws.proofs.Relations.{relates_along, relates_zero_mul, relates_difference}
+use Rattle.normal_atoms.proofs.Relations.{chain, back}
+use Rattle.language_meaning.specs.Trees.{TermTree}
+use Rattle.language_meaning.specs.Value.{NamedPoint, HasName, value, IsCongruent}
+use Rattle.language_meaning.specs.FractionRule.{◌>>=◌}
+use Rattle.language_meaning.specs.RationalForms.{RationalForm, formed, formed_difference, sum_of_forms, opposite_form}
 use Rattle.resolved_formulas.specs.ResolvedLaws.{Numbered}
 use Rattle.resolved_formulas.proofs.RuleLaw.{bind_ok}
 use Rattle.resolved_formulas.proofs.FormSteps.{Stands, plus_stands, opposite_stands}

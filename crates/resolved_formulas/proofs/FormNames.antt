@@ -2,21 +2,29 @@
 use Rattle.std.proofs.Common.{◌≡◌, ◌<◌, ◌⊎◌, inl, inr, ℕ, zero, suc, List, ◌∷◌, Bool, true, false, Option, Some, None, ap, sym, ◌∙◌, subst, refl, arith, nat_eq, eqb-true, if◌then◌else◌}
 use Rattle.std.proofs.Math.IntN.{ℤ, pos, negsuc, ◌+ℤ◌, ◌*ℤ◌}
 use Rattle.std.specs.Prelude.{◌<ℤ◌, unsigned_abs, int_div, Result, Ok, Err}
-use Rattle.qe_syntax.specs.FromExactNumbers.{lcm_of, content_of, Frac, whole_frac, inverted, power_steps}
-use Rattle.qe_syntax.proofs.FromExactNumbers.{mul_zero, cancel, mul_positive, content_is, lcm_is}
-use Rattle.qe_syntax.specs.FromFormulaMeaning.{Context, Fields, Integers, Point, Form, coefficient, scale, combine, gathered}
-use Rattle.qe_syntax.proofs.FromFormulaMeaning.{coefficient_combine, coefficient_scale, coefficient_gathered}
-use Rattle.atom_normal.specs.FromLinearForms.{quotient}
-use Rattle.atom_normal.proofs.FromLinearForms.{multiple_quotients}
-use Rattle.qe_syntax.specs.declared.tree.Literal.{Literal}
-use Rattle.qe_syntax.specs.declared.tree.Literal.TheVariants.{Fits, Past}
-use Rattle.qe_syntax.specs.Trees.{TermTree}
-use Rattle.qe_syntax.specs.Value.{NamedPoint, HasName, value}
-use Rattle.resolved_formulas.specs.FractionRule.{◌>>=◌}
-use Rattle.resolved_formulas.specs.RationalForms.{RationalForm, Missing, Overflow, Nonlinear, Division, numbers_of, formed_number, formed_form, lowest_form, is_constant, constant_form, constant_of, sum_of_forms, multiple_of_form, product_of_forms, quotient_of_forms, small_power, as_constant, power_of_form, opposite_form, variable_form, literal_form, forms, formed, formed_difference}
+use Rattle.exact_numbers.specs.Divides.{lcm_of, content_of}
+use Rattle.exact_numbers.specs.Frac.{Frac, whole_frac, inverted, power_steps}
+use Rattle.exact_numbers.proofs.Ring.{mul_zero}
+use Rattle.exact_numbers.proofs.Order.{cancel, mul_positive}
+use Rattle.exact_numbers.proofs.Contents.{content_is}
+use Rattle.exact_numbers.proofs.LeastMultiple.{lcm_is}
+use Rattle.logic_meaning.specs.Context.{Context, Fields, Integers}
+use Rattle.logic_meaning.specs.Point.{Point}
+use Rattle.logic_meaning.specs.Form.{Form, coefficient, scale, combine}
+use Rattle.logic_meaning.specs.Sorted.{gathered}
+use Rattle.formula_laws.proofs.Coefficients.{coefficient_combine, coefficient_scale}
+use Rattle.formula_laws.proofs.Gathered.{coefficient_gathered}
+use Rattle.logic_meaning.specs.Reduction.{quotient}
+use Rattle.linear_forms.proofs.Quotients.{multiple_quotients}
+use Rattle.language_meaning.specs.declared.tree.Literal.{Literal}
+use Rattle.language_meaning.specs.declared.tree.Literal.TheVariants.{Fits, Past}
+use Rattle.language_meaning.specs.Trees.{TermTree}
+use Rattle.language_meaning.specs.Value.{NamedPoint, HasName, value}
+use Rattle.language_meaning.specs.FractionRule.{◌>>=◌}
+use Rattle.language_meaning.specs.RationalForms.{RationalForm, Missing, Overflow, Nonlinear, Division, numbers_of, formed_number, formed_form, lowest_form, is_constant, constant_form, constant_of, sum_of_forms, multiple_of_form, product_of_forms, quotient_of_forms, small_power, as_constant, power_of_form, opposite_form, variable_form, literal_form, forms, formed, formed_difference}
 use Rattle.resolved_formulas.specs.ResolvedLaws.{Numbered}
 use Rattle.resolved_formulas.proofs.RuleLaw.{bind_ok, ok_same, KeepMeaning, rule_stands}
-use Rattle.qe_syntax.proofs.ValueLaw.{inverted_proper}
+use Rattle.written_syntax.proofs.ValueLaw.{inverted_proper}
 use Rattle.resolved_formulas.proofs.FormSteps.{Stands, number_ok, form_ok, content_not_zero, zero_int_eq}
 use Rattle.resolved_formulas.proofs.FormValues.{forms_keep}
 use Rattle.std.specs.Ordering.{int_eq}

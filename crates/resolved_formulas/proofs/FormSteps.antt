@@ -5,19 +5,31 @@ use Rattle.std.specs.Prelude.{◌<ℤ◌, unsigned_abs, int_div, Result, Ok, Err
 use Rattle.std.specs.List.{list_all}
 use Rattle.std.specs.Ordering.{int_eq, is_eq}
 use Rattle.std.proofs.lemmas.Int.{ints}
-use Rattle.qe_syntax.specs.FromExactNumbers.{Divides, lcm_of, content_of, Frac, IsProper, SameValue, whole_frac, true_sum, true_product, true_power, negated, inverted, power_steps}
-use Rattle.qe_syntax.proofs.FromExactNumbers.{ring, one_mul, mul_positive, factor_positive, by_order, by_compare, exact_div, lcm_is, content_is, zero_divides, same_value_trans, power_outcome}
-use Rattle.qe_syntax.specs.FromFormulaMeaning.{Context, Fields, Integers, Point, Form, Term, total, scale, combine, IsSorted, gathered, is_within}
-use Rattle.qe_syntax.specs.FromFormulaMeaning.form_rules as form
-use Rattle.qe_syntax.specs.FromFormulaMeaning.{value as value_in}
-use Rattle.qe_syntax.proofs.FromFormulaMeaning.{value_scale, value_combine, scale_sorted, value_gathered, gathered_sorted}
-use Rattle.atom_normal.specs.FromLinearForms.{quotient}
-use Rattle.atom_normal.proofs.FromLinearForms.{value_quotient, sorted_quotient}
-use Rattle.qe_syntax.specs.declared.tree.Literal.{Literal}
-use Rattle.qe_syntax.specs.declared.tree.Literal.TheVariants.{Fits, Past}
-use Rattle.qe_syntax.specs.Value.{literal_number, true_quotient}
-use Rattle.qe_syntax.proofs.ValueLaw.{int_eq_zero, inverted_proper, same_zero, inverted_same}
-use Rattle.resolved_formulas.specs.RationalForms.{RationalForm, Missing, Overflow, Nonlinear, Division, numbers_of, formed_number, formed_form, lowest_form, is_empty, is_constant, constant_form, constant_of, sum_of_forms, multiple_of_form, product_of_forms, quotient_of_forms, small_power, as_constant, power_of_form, opposite_form}
+use Rattle.exact_numbers.specs.Divides.{Divides, lcm_of, content_of}
+use Rattle.exact_numbers.specs.Frac.{Frac, IsProper, SameValue, whole_frac, true_sum, true_product, true_power, negated, inverted, power_steps}
+use Rattle.exact_numbers.proofs.Ring.{ring, one_mul}
+use Rattle.exact_numbers.proofs.Order.{mul_positive, factor_positive, by_order, by_compare}
+use Rattle.exact_numbers.proofs.LeastMultiple.{exact_div, lcm_is}
+use Rattle.exact_numbers.proofs.Contents.{content_is}
+use Rattle.exact_numbers.proofs.Divisibility.{zero_divides}
+use Rattle.exact_numbers.proofs.FractionRule.{same_value_trans}
+use Rattle.exact_numbers.proofs.Powers.{power_outcome}
+use Rattle.logic_meaning.specs.Context.{Context, Fields, Integers}
+use Rattle.logic_meaning.specs.Point.{Point}
+use Rattle.logic_meaning.specs.Form.{Form, Term, total, scale, combine, value as value_in}
+use Rattle.logic_meaning.specs.Sorted.{IsSorted, gathered}
+use Rattle.logic_meaning.specs.Limits.{is_within}
+use Rattle.logic_meaning.specs.Form as form
+use Rattle.formula_laws.proofs.Values.{value_scale, value_combine}
+use Rattle.formula_laws.proofs.Sorted.{scale_sorted}
+use Rattle.formula_laws.proofs.Gathered.{value_gathered, gathered_sorted}
+use Rattle.logic_meaning.specs.Reduction.{quotient}
+use Rattle.linear_forms.proofs.Quotients.{value_quotient, sorted_quotient}
+use Rattle.language_meaning.specs.declared.tree.Literal.{Literal}
+use Rattle.language_meaning.specs.declared.tree.Literal.TheVariants.{Fits, Past}
+use Rattle.language_meaning.specs.Value.{literal_number, true_quotient}
+use Rattle.written_syntax.proofs.ValueLaw.{int_eq_zero, inverted_proper, same_zero, inverted_same}
+use Rattle.language_meaning.specs.RationalForms.{RationalForm, Missing, Overflow, Nonlinear, Division, numbers_of, formed_number, formed_form, lowest_form, is_empty, is_constant, constant_form, constant_of, sum_of_forms, multiple_of_form, product_of_forms, quotient_of_forms, small_power, as_constant, power_of_form, opposite_form}
 use Rattle.resolved_formulas.specs.ResolvedLaws.{value_at}
 use Rattle.resolved_formulas.proofs.RuleLaw.{bind_ok, ok_same}
 

@@ -3,17 +3,18 @@ use Rattle.std.proofs.Common.{◌≡◌, ◌<◌, ℕ, List, ap, sym, ◌∙◌,
 use Rattle.std.proofs.Math.IntN.{ℤ, pos, ◌+ℤ◌, ◌*ℤ◌}
 use Rattle.std.specs.Prelude.{◌<ℤ◌, Ok}
 use Rattle.std.proofs.lemmas.Int.{ints}
-use Rattle.qe_syntax.specs.FromExactNumbers.{whole_frac, negated}
-use Rattle.qe_syntax.specs.FromFormulaMeaning.{Context, Point}
-use Rattle.qe_syntax.specs.FromFormulaMeaning.form_rules as form
-use Rattle.qe_syntax.specs.FromFormulaMeaning.{value as value_in}
-use Rattle.qe_syntax.specs.declared.tree.Literal.{Literal}
-use Rattle.qe_syntax.specs.declared.tree.Literal.TheVariants.{Fits, Past}
-use Rattle.qe_syntax.specs.Trees.{TermTree, Named}
-use Rattle.qe_syntax.specs.Value.{NamedPoint, HasName, literal_number, value}
-use Rattle.qe_syntax.proofs.ValueLaw.{value_proper}
-use Rattle.resolved_formulas.specs.FractionRule.{by_rule}
-use Rattle.resolved_formulas.specs.RationalForms.{RationalForm, constant_form, variable_form, literal_form, forms}
+use Rattle.exact_numbers.specs.Frac.{whole_frac, negated}
+use Rattle.logic_meaning.specs.Context.{Context}
+use Rattle.logic_meaning.specs.Point.{Point}
+use Rattle.logic_meaning.specs.Form as form
+use Rattle.logic_meaning.specs.Form.{value as value_in}
+use Rattle.language_meaning.specs.declared.tree.Literal.{Literal}
+use Rattle.language_meaning.specs.declared.tree.Literal.TheVariants.{Fits, Past}
+use Rattle.language_meaning.specs.Trees.{TermTree, Named}
+use Rattle.language_meaning.specs.Value.{NamedPoint, HasName, literal_number, value}
+use Rattle.written_syntax.proofs.ValueLaw.{value_proper}
+use Rattle.language_meaning.specs.FractionRule.{by_rule}
+use Rattle.language_meaning.specs.RationalForms.{RationalForm, constant_form, variable_form, literal_form, forms}
 use Rattle.resolved_formulas.specs.ResolvedLaws.{Numbered, FormHasValue}
 use Rattle.resolved_formulas.proofs.RuleLaw.{ok_same, KeepMeaning, rule_stands}
 use Rattle.resolved_formulas.proofs.FormSteps.{Stands, constant_stands, plus_stands, times_stands, over_stands, power_stands, opposite_stands, stands_as}

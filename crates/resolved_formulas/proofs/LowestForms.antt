@@ -4,18 +4,27 @@ use Rattle.std.proofs.Math.IntN.{ℤ, pos, negsuc, neg_ℤ, ◌*ℤ◌}
 use Rattle.std.specs.Prelude.{◌<ℤ◌, unsigned_abs, int_div, Result, Ok, Err}
 use Rattle.std.specs.Ordering.{int_eq}
 use Rattle.std.proofs.lemmas.Int.{ints}
-use Rattle.qe_syntax.specs.FromExactNumbers.{Divides, lcm_of, content_of, DividesAll, Frac, IsLowest, whole_frac, inverted, power_steps}
-use Rattle.qe_syntax.proofs.FromExactNumbers.{mul_positive, content_is, lcm_is, divides_same, divides_both, divides_along, divides_neg, one_divides, whole_lowest, power_outcome}
-use Rattle.qe_syntax.specs.FromFormulaMeaning.{Context, Fields, Integers, Form, Term, coefficients, scaled, scale, combine, gathered}
-use Rattle.atom_normal.specs.FromLinearForms.{quotient}
-use Rattle.atom_normal.proofs.FromLinearForms.{coefficients_quotients, content_divided}
-use Rattle.qe_syntax.specs.declared.tree.Literal.{Literal}
-use Rattle.qe_syntax.specs.declared.tree.Literal.TheVariants.{Fits, Past}
-use Rattle.resolved_formulas.specs.RationalForms.{RationalForm, Missing, Overflow, Nonlinear, Division, numbers_of, formed_number, formed_form, lowest_form, is_constant, constant_form, constant_of, sum_of_forms, multiple_of_form, product_of_forms, quotient_of_forms, small_power, as_constant, power_of_form, opposite_form, variable_form, literal_form, forms}
+use Rattle.exact_numbers.specs.Divides.{Divides, lcm_of, content_of}
+use Rattle.exact_numbers.specs.Division.{DividesAll}
+use Rattle.exact_numbers.specs.Frac.{Frac, IsLowest, whole_frac, inverted, power_steps}
+use Rattle.exact_numbers.proofs.Order.{mul_positive}
+use Rattle.exact_numbers.proofs.Contents.{content_is}
+use Rattle.exact_numbers.proofs.LeastMultiple.{lcm_is}
+use Rattle.exact_numbers.proofs.Divisibility.{divides_same, divides_both, divides_along, divides_neg, one_divides}
+use Rattle.exact_numbers.proofs.FractionRule.{whole_lowest}
+use Rattle.exact_numbers.proofs.Powers.{power_outcome}
+use Rattle.logic_meaning.specs.Context.{Context, Fields, Integers}
+use Rattle.logic_meaning.specs.Form.{Form, Term, coefficients, scaled, scale, combine}
+use Rattle.logic_meaning.specs.Sorted.{gathered}
+use Rattle.logic_meaning.specs.Reduction.{quotient}
+use Rattle.linear_forms.proofs.Quotients.{coefficients_quotients, content_divided}
+use Rattle.language_meaning.specs.declared.tree.Literal.{Literal}
+use Rattle.language_meaning.specs.declared.tree.Literal.TheVariants.{Fits, Past}
+use Rattle.language_meaning.specs.RationalForms.{RationalForm, Missing, Overflow, Nonlinear, Division, numbers_of, formed_number, formed_form, lowest_form, is_constant, constant_form, constant_of, sum_of_forms, multiple_of_form, product_of_forms, quotient_of_forms, small_power, as_constant, power_of_form, opposite_form, variable_form, literal_form, forms}
 use Rattle.resolved_formulas.specs.LowestForms.{IsLowestForm}
 use Rattle.resolved_formulas.specs.ResolvedLaws.{Numbered, FormIsLowest}
 use Rattle.resolved_formulas.proofs.RuleLaw.{bind_ok, ok_same, KeepMeaning, rule_stands}
-use Rattle.qe_syntax.proofs.ValueLaw.{inverted_proper}
+use Rattle.written_syntax.proofs.ValueLaw.{inverted_proper}
 use Rattle.resolved_formulas.proofs.FormSteps.{Stands, number_ok, content_not_zero, zero_int_eq}
 use Rattle.resolved_formulas.proofs.FormValues.{forms_keep}
 use Rattle.resolved_formulas.proofs.FormNames.{origin, numbered_origin}

@@ -5,14 +5,18 @@ use Rattle.std.specs.Prelude.{unsigned_abs, int_div, Result, Ok, Err}
 use Rattle.std.specs.List.{list_all}
 use Rattle.std.specs.Ordering.{int_eq}
 use Rattle.std.proofs.lemmas.Bool.Decides.{Decides-int_eq}
-use Rattle.qe_syntax.specs.FromExactNumbers.{lcm_of, Frac, whole_frac, inverted, power_steps}
-use Rattle.qe_syntax.specs.FromFormulaMeaning.{Context, Fields, Integers, Form, scale, combine, gathered, is_within}
-use Rattle.qe_syntax.specs.declared.tree.Literal.{Literal}
-use Rattle.qe_syntax.specs.declared.tree.Literal.TheVariants.{Fits, Past}
-use Rattle.qe_syntax.specs.Trees.{TermTree, TermTrees, Number, Named, Sum, Product, Quotient, Power, Negative, none, also}
-use Rattle.resolved_formulas.specs.FractionRule.{added, multiplied, ◌>>=◌}
-use Rattle.resolved_formulas.specs.RationalForms.{RationalForm, Missing, Overflow, Nonlinear, Division, numbers_of, formed_number, formed_form, lowest_form, is_constant, constant_form, constant_of, sum_of_forms, multiple_of_form, product_of_forms, quotient_of_forms, small_power, as_constant, power_of_form, opposite_form, literal_form, forms, formed}
-use Rattle.resolved_formulas.specs.Causes.{IsAboveOne, MultipliesNames, HaveNonlinear, HaveForbidden}
+use Rattle.exact_numbers.specs.Divides.{lcm_of}
+use Rattle.exact_numbers.specs.Frac.{Frac, whole_frac, inverted, power_steps}
+use Rattle.logic_meaning.specs.Context.{Context, Fields, Integers}
+use Rattle.logic_meaning.specs.Form.{Form, scale, combine}
+use Rattle.logic_meaning.specs.Sorted.{gathered}
+use Rattle.logic_meaning.specs.Limits.{is_within}
+use Rattle.language_meaning.specs.declared.tree.Literal.{Literal}
+use Rattle.language_meaning.specs.declared.tree.Literal.TheVariants.{Fits, Past}
+use Rattle.language_meaning.specs.Trees.{TermTree, TermTrees, Number, Named, Sum, Product, Quotient, Power, Negative, none, also}
+use Rattle.language_meaning.specs.FractionRule.{added, multiplied, ◌>>=◌}
+use Rattle.language_meaning.specs.RationalForms.{RationalForm, Missing, Overflow, Nonlinear, Division, numbers_of, formed_number, formed_form, lowest_form, is_constant, constant_form, constant_of, sum_of_forms, multiple_of_form, product_of_forms, quotient_of_forms, small_power, as_constant, power_of_form, opposite_form, literal_form, forms, formed}
+use Rattle.language_meaning.specs.Causes.{IsAboveOne, MultipliesNames, HaveNonlinear, HaveForbidden}
 use Rattle.resolved_formulas.specs.ResolvedLaws.{HasCause, MissingHasCause}
 
 -- where two calculations one after the other stop

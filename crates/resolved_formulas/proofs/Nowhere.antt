@@ -1,12 +1,13 @@
 -- Where something is said of no atom, and of no quantified name; and the variables of a formula, each in the list.
 use Rattle.std.proofs.Common.{◌⊎◌, inl, inr, ⊎_elim, ℕ, List, ◌++◌, refl}
-use Rattle.qe_syntax.specs.FromFormulaMeaning.{Formula, Formulas, Yes, No, One, Not, And, Or, Impl, Repl, Equiv, Ex, All, none, also, Every, EveryOf, EveryBound, EveryBoundOf}
-use Rattle.qe_syntax.specs.Trees as term
-use Rattle.qe_syntax.specs.Trees.{TermTree, TermTrees, Number, Named, Sum, Product, Quotient, Power, Negative, WrittenAtom, Compare, Cong, Ncong, Bound, FormulaTree, FormulaTrees}
-use Rattle.qe_syntax.specs.Value.{HasName, HaveName, Mentions}
-use Rattle.qe_syntax.specs.Valued.{IsIn}
-use Rattle.resolved_formulas.specs.Somewhere.{SomewhereIn, SomeAtom}
-use Rattle.resolved_formulas.specs.Resolving.{variables_of, variables_in, atom_variables, formula_variables, all_variables}
+use Rattle.logic_meaning.specs.Formula.{Formula, Formulas, Yes, No, One, Not, And, Or, Impl, Repl, Equiv, Ex, All, none, also}
+use Rattle.logic_meaning.specs.Every.{Every, EveryOf, EveryBound, EveryBoundOf}
+use Rattle.language_meaning.specs.Trees as term
+use Rattle.language_meaning.specs.Trees.{TermTree, TermTrees, Number, Named, Sum, Product, Quotient, Power, Negative, WrittenAtom, Compare, Cong, Ncong, Bound, FormulaTree, FormulaTrees}
+use Rattle.language_meaning.specs.Value.{HasName, HaveName, Mentions}
+use Rattle.written_syntax.specs.Valued.{IsIn}
+use Rattle.language_meaning.specs.Somewhere.{SomewhereIn, SomeAtom}
+use Rattle.language_meaning.specs.Resolving.{variables_of, variables_in, atom_variables, formula_variables, all_variables}
 use Rattle.resolved_formulas.proofs.PlaceLaws.{in_either}
 
 module _ {A N : Type 0} (P : A → Type 0) where

@@ -6,13 +6,13 @@ use Rattle.std.specs.List.{IsDistinct, AllByRecursion, list_any, fold}
 use Rattle.std.specs.Cmp.Lexicographic.{pointwise_decides}
 use Rattle.std.proofs.lemmas.Cmp.{nat_list_eq_equiv}
 use Rattle.std.proofs.lemmas.Map.Keys.{IsDistinct-push}
-use Rattle.qe_syntax.proofs.FromExactNumbers.{mul_zero}
-use Rattle.qe_syntax.specs.FromFormulaMeaning.{move}
-use Rattle.qe_syntax.proofs.FromFormulaMeaning.{point_same}
-use Rattle.qe_syntax.specs.Value.{NamedPoint, same_name}
-use Rattle.qe_syntax.specs.Valued.{IsIn}
-use Rattle.formula_tree.specs.Names.{with_name, place}
-use Rattle.resolved_formulas.specs.Resolving.{at_names}
+use Rattle.exact_numbers.proofs.Ring.{mul_zero}
+use Rattle.logic_meaning.specs.Point.{move}
+use Rattle.formula_laws.proofs.SamePoint.{point_same}
+use Rattle.language_meaning.specs.Value.{NamedPoint, same_name}
+use Rattle.written_syntax.specs.Valued.{IsIn}
+use Rattle.logic_meaning.specs.Names.{with_name, place}
+use Rattle.language_meaning.specs.Resolving.{at_names}
 
 pub same_is : (xs ys : List ℕ) → same_name xs ys ≡ true → xs ≡ ys
 same_is xs ys = (pointwise_decides (λ m n. (eqb-true m n, eq-eqb m n)) xs ys).0

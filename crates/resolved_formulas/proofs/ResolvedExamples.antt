@@ -2,21 +2,27 @@
 use Rattle.std.proofs.Common.{◌≡◌, bytes_eq, if◌then◌else◌, inl, inr, ⊎_elim, zero, suc, sym, subst, arith, Some, None, List, [], ◌∷◌, codes, true, refl, ℕ, lit≤}
 use Rattle.std.proofs.Math.IntN.{pos, negsuc}
 use Rattle.std.specs.Prelude.{◌^◌, ◌-ℤ◌, Ok, Err}
-use Rattle.qe_syntax.specs.FromExactNumbers.{checked, gcd_of, lcm_of, euclid, content_of, inverted, power_steps, product_step}
-use Rattle.qe_syntax.specs.FromFormulaMeaning.{Fields, Integers, Yes, One, Not, And, Or, Ex, also, none, scale, combine, gathered, Tree}
-use Rattle.qe_syntax.specs.FromFormulaMeaning.atom_rules as meaning
-use Rattle.atom_normal.specs.FromLinearForms.{quotient, residue_form}
-use Rattle.atom_normal.specs.NormalForm.{normal_atom}
-use Rattle.qe_syntax.specs.declared.tree.Literal.TheVariants.{Fits, Past}
-use Rattle.qe_syntax.specs.declared.tree.Relation.TheVariants.{Equal, Less, Greater, AtLeast}
-use Rattle.qe_syntax.specs.Trees.{TermTree, Number, Named, Sum, Product, Quotient, Power, Negative, terms_of, Compare, Cong, Ncong, Bound, FormulaTree, formulas_of}
-use Rattle.resolved_formulas.specs.RationalForms.{Overflow, Nonlinear, Division, formed_number, formed_form, lowest_form, sum_of_forms, multiple_of_form, product_of_forms, quotient_of_forms, power_of_form, formed, variable_form, constant_form}
-use Rattle.formula_tree.specs.Bindings.{bound_to}
-use Rattle.qe_syntax.specs.Value.{NamedPoint}
-use Rattle.resolved_formulas.specs.Resolving.{BoundTrees, at_names, resolve}
-use Rattle.formula_tree.specs.Names.{place}
-use Rattle.resolved_formulas.specs.NamesAfter.{names_after}
-use Rattle.resolved_formulas.specs.Causes.{IsUnbound, NamesFormulaAsTerm, IsNonlinear, Divides, CongruenceInFields, IsBadModulus, IsTooDeep, OverflowsInReading, IsBound, height_in_place}
+use Rattle.exact_numbers.specs.Limit.{checked}
+use Rattle.exact_numbers.specs.Divides.{gcd_of, lcm_of, euclid, content_of}
+use Rattle.exact_numbers.specs.Frac.{inverted, power_steps, product_step}
+use Rattle.logic_meaning.specs.Context.{Fields, Integers}
+use Rattle.logic_meaning.specs.Formula.{Yes, One, Not, And, Or, Ex, also, none}
+use Rattle.logic_meaning.specs.Form.{scale, combine}
+use Rattle.logic_meaning.specs.Sorted.{gathered}
+use Rattle.logic_meaning.specs.Tree.{Tree}
+use Rattle.logic_meaning.specs.Atom as meaning
+use Rattle.logic_meaning.specs.Reduction.{quotient, residue_form}
+use Rattle.logic_meaning.specs.NormalForm.{normal_atom}
+use Rattle.language_meaning.specs.declared.tree.Literal.TheVariants.{Fits, Past}
+use Rattle.language_meaning.specs.declared.tree.Relation.TheVariants.{Equal, Less, Greater, AtLeast}
+use Rattle.language_meaning.specs.Trees.{TermTree, Number, Named, Sum, Product, Quotient, Power, Negative, terms_of, Compare, Cong, Ncong, Bound, FormulaTree, formulas_of}
+use Rattle.language_meaning.specs.RationalForms.{Overflow, Nonlinear, Division, formed_number, formed_form, lowest_form, sum_of_forms, multiple_of_form, product_of_forms, quotient_of_forms, power_of_form, formed, variable_form, constant_form}
+use Rattle.logic_meaning.specs.Bindings.{bound_to}
+use Rattle.language_meaning.specs.Value.{NamedPoint}
+use Rattle.language_meaning.specs.Resolving.{BoundTrees, at_names, resolve}
+use Rattle.logic_meaning.specs.Names.{place}
+use Rattle.language_meaning.specs.NamesAfter.{names_after}
+use Rattle.language_meaning.specs.Causes.{IsUnbound, NamesFormulaAsTerm, IsNonlinear, Divides, CongruenceInFields, IsBadModulus, IsTooDeep, OverflowsInReading, IsBound, height_in_place}
 use Rattle.resolved_formulas.specs.Accepted.{IsAccepted}
 
 abbrev x : TermTree

@@ -1,18 +1,24 @@
 -- The height of a resolved formula.
 use Rattle.std.proofs.Common.{◌≡◌, ℕ, suc, max, List, Bool, true, false, Option, Some, None, ap, ap₂, refl}
 use Rattle.std.specs.Prelude.{unsigned_abs, unwrap_or, Result, Ok, Err}
-use Rattle.qe_syntax.specs.FromFormulaMeaning.{Context, Formula, Formulas, Yes, No, One, Not, And, Or, Impl, Repl, Equiv, Ex, All, none, also, Every, EveryOf, replaced, all_replaced, height, greatest_height, Tree, IsAtomic}
-use Rattle.qe_syntax.specs.FromFormulaMeaning.atom_rules as meaning
-use Rattle.qe_syntax.proofs.FromFormulaMeaning.{every_all}
-use Rattle.atom_normal.proofs.NormalLaws.{normal_atomic}
-use Rattle.qe_syntax.specs.declared.tree.Relation.{Relation}
-use Rattle.qe_syntax.specs.Trees.{WrittenAtom, Compare, Cong, Ncong, Bound}
-use Rattle.qe_syntax.specs.Value.{relation_of}
-use Rattle.formula_tree.specs.Bindings.{bound_to}
-use Rattle.resolved_formulas.specs.RationalForms.{RationalForm, Missing, formed, formed_difference}
-use Rattle.resolved_formulas.specs.Resolving.{BoundTrees, compared, congruent, resolved_atom}
-use Rattle.formula_tree.specs.Names.{place}
-use Rattle.resolved_formulas.specs.Causes.{atom_in_place}
+use Rattle.logic_meaning.specs.Context.{Context}
+use Rattle.logic_meaning.specs.Formula.{Formula, Formulas, Yes, No, One, Not, And, Or, Impl, Repl, Equiv, Ex, All, none, also}
+use Rattle.logic_meaning.specs.Every.{Every, EveryOf}
+use Rattle.logic_meaning.specs.Replaced.{replaced, all_replaced}
+use Rattle.logic_meaning.specs.Sizes.{height, greatest_height}
+use Rattle.logic_meaning.specs.Tree.{Tree}
+use Rattle.logic_meaning.specs.Plain.{IsAtomic}
+use Rattle.logic_meaning.specs.Atom as meaning
+use Rattle.formula_laws.proofs.EachAtom.{every_all}
+use Rattle.normal_atoms.proofs.NormalLaws.{normal_atomic}
+use Rattle.language_meaning.specs.declared.tree.Relation.{Relation}
+use Rattle.language_meaning.specs.Trees.{WrittenAtom, Compare, Cong, Ncong, Bound}
+use Rattle.language_meaning.specs.Value.{relation_of}
+use Rattle.logic_meaning.specs.Bindings.{bound_to}
+use Rattle.language_meaning.specs.RationalForms.{RationalForm, Missing, formed, formed_difference}
+use Rattle.language_meaning.specs.Resolving.{BoundTrees, compared, congruent, resolved_atom}
+use Rattle.logic_meaning.specs.Names.{place}
+use Rattle.language_meaning.specs.Causes.{atom_in_place}
 use Rattle.resolved_formulas.specs.ResolvedLaws.{ResolvingKeepsHeight}
 
 -- replacements of one height make formulas of one height

@@ -3,20 +3,25 @@ use Rattle.std.proofs.Common.{◌≡◌, ◌⊎◌, inl, inr, ⊎_elim, ℕ, Lis
 use Rattle.std.proofs.Math.IntN.{pos}
 use Rattle.std.specs.Prelude.{unsigned_abs, Ok}
 use Rattle.std.proofs.lemmas.Bool.{cases_eq}
-use Rattle.qe_syntax.specs.FromFormulaMeaning.{Context, Fields, Integers, Formula, Formulas, Yes, No, One, Not, And, Or, Impl, Repl, Equiv, Ex, All, Every, EveryOf, Free, FreeInSome, replaced, all_replaced, coefficient, IsFree}
-use Rattle.qe_syntax.specs.FromFormulaMeaning.formula_rules as plain
-use Rattle.qe_syntax.specs.FromFormulaMeaning.atom_rules as meaning
-use Rattle.qe_syntax.proofs.FromFormulaMeaning.{every_map}
-use Rattle.atom_normal.proofs.NormalLaws.{normal_names}
-use Rattle.qe_syntax.specs.declared.tree.Relation.{Relation}
-use Rattle.qe_syntax.specs.Trees as term
-use Rattle.qe_syntax.specs.Trees.{TermTree, TermTrees, Number, Named, Sum, Product, Quotient, Power, Negative, WrittenAtom, Compare, Cong, Ncong, Bound}
-use Rattle.qe_syntax.specs.Value.{HasName, HaveName, relation_of}
-use Rattle.resolved_formulas.specs.RationalForms.{RationalForm, formed, formed_difference}
-use Rattle.resolved_formulas.specs.Resolving.{BoundTrees, compared, congruent, resolved_atom, MentionsNumber}
-use Rattle.formula_tree.specs.Names.{place}
-use Rattle.resolved_formulas.specs.NamesAfter.{names_after}
-use Rattle.resolved_formulas.specs.Causes.{IsMissing, IsNoDivisor}
+use Rattle.logic_meaning.specs.Context.{Context, Fields, Integers}
+use Rattle.logic_meaning.specs.Formula.{Formula, Formulas, Yes, No, One, Not, And, Or, Impl, Repl, Equiv, Ex, All}
+use Rattle.logic_meaning.specs.Every.{Every, EveryOf, Free, FreeInSome}
+use Rattle.logic_meaning.specs.Replaced.{replaced, all_replaced}
+use Rattle.logic_meaning.specs.Form.{coefficient}
+use Rattle.logic_meaning.specs.Tree.{IsFree}
+use Rattle.logic_meaning.specs.Formula as plain
+use Rattle.logic_meaning.specs.Atom as meaning
+use Rattle.formula_laws.proofs.EachAtom.{every_map}
+use Rattle.normal_atoms.proofs.NormalLaws.{normal_names}
+use Rattle.language_meaning.specs.declared.tree.Relation.{Relation}
+use Rattle.language_meaning.specs.Trees as term
+use Rattle.language_meaning.specs.Trees.{TermTree, TermTrees, Number, Named, Sum, Product, Quotient, Power, Negative, WrittenAtom, Compare, Cong, Ncong, Bound}
+use Rattle.language_meaning.specs.Value.{HasName, HaveName, relation_of}
+use Rattle.language_meaning.specs.RationalForms.{RationalForm, formed, formed_difference}
+use Rattle.language_meaning.specs.Resolving.{BoundTrees, compared, congruent, resolved_atom, MentionsNumber}
+use Rattle.logic_meaning.specs.Names.{place}
+use Rattle.language_meaning.specs.NamesAfter.{names_after}
+use Rattle.language_meaning.specs.Causes.{IsMissing, IsNoDivisor}
 use Rattle.resolved_formulas.specs.ResolvedLaws.{ResolvingBringsNoName}
 use Rattle.resolved_formulas.proofs.FormNames.{difference_lacks}
 use Rattle.resolved_formulas.proofs.ResolvedTruth.{IsPlain, there, modulus_there, above_zero, all_plain}

@@ -3,24 +3,32 @@ use Rattle.std.proofs.Common.{◌≡◌, ◌<◌, ◌⊎◌, ◌↔◌, inl, inr
 use Rattle.std.proofs.Math.IntN.{ℤ, pos}
 use Rattle.std.specs.Prelude.{◌<ℤ◌, unsigned_abs, unwrap_or, Result, Ok, Err}
 use Rattle.std.proofs.lemmas.Int.{ints}
-use Rattle.qe_syntax.specs.FromExactNumbers.{SameValue, whole_frac}
-use Rattle.qe_syntax.specs.FromFormulaMeaning.{Context, Fields, Integers, Allowed, Point, Of, move, No, Every, Tree, TrueAt}
-use Rattle.qe_syntax.specs.FromFormulaMeaning.atom_rules as meaning
-use Rattle.qe_syntax.proofs.FromFormulaMeaning.{replacing_keeps_truth, every_map, every_all, every_replaced, allowed_mul, below_move}
-use Rattle.atom_normal.proofs.Relations.{chain, never}
-use Rattle.atom_normal.specs.NormalForm.{normal_atom, IsNormal}
-use Rattle.atom_normal.proofs.NormalLaws.{normal_truth, normal_normal}
-use Rattle.qe_syntax.specs.declared.tree.Relation.{Relation}
-use Rattle.qe_syntax.specs.Trees.{TermTree, WrittenAtom, Compare, Cong, Ncong, Bound, FormulaTree}
-use Rattle.qe_syntax.specs.Value.{NamedPoint, HasName, Mentions, Says, same_name, value, relation_of, RelatesFractions, IsCongruent}
-use Rattle.qe_syntax.specs.Valued.{IsIn}
-use Rattle.qe_syntax.proofs.ValueLaw.{value_proper}
-use Rattle.formula_tree.specs.Bindings.{bound_to}
-use Rattle.resolved_formulas.specs.RationalForms.{RationalForm, Missing, is_constant, formed, formed_difference}
-use Rattle.resolved_formulas.specs.Resolving.{BoundTrees, formula_variables, at_names, compared, congruent, resolved_atom, IsTreeTrue, bound_truth}
-use Rattle.formula_tree.specs.Names.{place}
-use Rattle.resolved_formulas.specs.NamesAfter.{names_after}
-use Rattle.resolved_formulas.specs.Causes.{HasNoTree, IsCongruence, HasBadModulus, IsMissing, IsNoDivisor, PassesInReading, CongruenceInFields}
+use Rattle.exact_numbers.specs.Frac.{SameValue, whole_frac}
+use Rattle.logic_meaning.specs.Context.{Context, Fields, Integers, Allowed}
+use Rattle.logic_meaning.specs.Point.{Point, Of, move}
+use Rattle.logic_meaning.specs.Formula.{No}
+use Rattle.logic_meaning.specs.Every.{Every}
+use Rattle.logic_meaning.specs.Tree.{Tree, TrueAt}
+use Rattle.logic_meaning.specs.Atom as meaning
+use Rattle.formula_laws.proofs.Replacing.{replacing_keeps_truth}
+use Rattle.formula_laws.proofs.EachAtom.{every_map, every_all}
+use Rattle.formula_laws.proofs.ReplacedShape.{every_replaced}
+use Rattle.formula_laws.proofs.SamePoint.{allowed_mul}
+use Rattle.formula_laws.proofs.Values.{below_move}
+use Rattle.normal_atoms.proofs.Relations.{chain, never}
+use Rattle.logic_meaning.specs.NormalForm.{normal_atom, IsNormal}
+use Rattle.normal_atoms.proofs.NormalLaws.{normal_truth, normal_normal}
+use Rattle.language_meaning.specs.declared.tree.Relation.{Relation}
+use Rattle.language_meaning.specs.Trees.{TermTree, WrittenAtom, Compare, Cong, Ncong, Bound, FormulaTree}
+use Rattle.language_meaning.specs.Value.{NamedPoint, HasName, Mentions, Says, same_name, value, relation_of, RelatesFractions, IsCongruent}
+use Rattle.written_syntax.specs.Valued.{IsIn}
+use Rattle.written_syntax.proofs.ValueLaw.{value_proper}
+use Rattle.logic_meaning.specs.Bindings.{bound_to}
+use Rattle.language_meaning.specs.RationalForms.{RationalForm, Missing, is_constant, formed, formed_difference}
+use Rattle.language_meaning.specs.Resolving.{BoundTrees, formula_variables, at_names, compared, congruent, resolved_atom, IsTreeTrue, bound_truth}
+use Rattle.logic_meaning.specs.Names.{place}
+use Rattle.language_meaning.specs.NamesAfter.{names_after}
+use Rattle.language_meaning.specs.Causes.{HasNoTree, IsCongruence, HasBadModulus, IsMissing, IsNoDivisor, PassesInReading, CongruenceInFields}
 use Rattle.resolved_formulas.specs.Accepted.{IsAccepted}
 use Rattle.resolved_formulas.specs.ResolvedLaws.{Numbered, HasNormalTrees, ResolvingKeepsTruth, ResolvingIsNormal}
 use Rattle.resolved_formulas.proofs.PlaceLaws.{at_place, move_at_names, after_has, after_distinct}

@@ -3,15 +3,16 @@ use Rattle.std.proofs.Common.{◌≡◌, ◌<◌, inl, inr, ℕ, List, ap, ◌�
 use Rattle.std.proofs.Math.IntN.{ℤ, pos, ◌+ℤ◌, ◌*ℤ◌}
 use Rattle.std.specs.Prelude.{unsigned_abs, Result, Ok, Err}
 use Rattle.std.proofs.lemmas.Int.{ints}
-use Rattle.qe_syntax.specs.FromExactNumbers.{Frac, IsProper, SameValue, whole_frac, true_sum, true_product, true_power, negated, sum_step, product_step}
-use Rattle.qe_syntax.proofs.FromExactNumbers.{ring, mul_positive}
-use Rattle.qe_syntax.specs.declared.tree.Literal.{Literal}
-use Rattle.qe_syntax.specs.declared.value.EvalError.{EvalError}
-use Rattle.qe_syntax.specs.Trees.{TermTree, TermTrees, Number, Named, Sum, Product, Quotient, Power, Negative, none, also}
-use Rattle.qe_syntax.specs.Value.{NamedPoint, HasName, HaveName, literal_number, true_quotient, value, value_of_sum, value_of_product}
-use Rattle.qe_syntax.specs.Rule.{calculated, added as summed, multiplied as product_of, stepped, quotient_step, power_step, ◌>>=◌ as and_then}
-use Rattle.qe_syntax.proofs.ValueLaw.{value_proper, with_zero, with_one, zero_before, one_before, one_positive}
-use Rattle.resolved_formulas.specs.FractionRule.{Steps, by_rule, added, multiplied, ◌>>=◌}
+use Rattle.exact_numbers.specs.Frac.{Frac, IsProper, SameValue, whole_frac, true_sum, true_product, true_power, negated, sum_step, product_step}
+use Rattle.exact_numbers.proofs.Ring.{ring}
+use Rattle.exact_numbers.proofs.Order.{mul_positive}
+use Rattle.language_meaning.specs.declared.tree.Literal.{Literal}
+use Rattle.written_syntax.specs.declared.value.EvalError.{EvalError}
+use Rattle.language_meaning.specs.Trees.{TermTree, TermTrees, Number, Named, Sum, Product, Quotient, Power, Negative, none, also}
+use Rattle.language_meaning.specs.Value.{NamedPoint, HasName, HaveName, literal_number, true_quotient, value, value_of_sum, value_of_product}
+use Rattle.written_syntax.specs.Rule.{calculated, added as summed, multiplied as product_of, stepped, quotient_step, power_step, ◌>>=◌ as and_then}
+use Rattle.written_syntax.proofs.ValueLaw.{value_proper, with_zero, with_one, zero_before, one_before, one_positive}
+use Rattle.language_meaning.specs.FractionRule.{Steps, by_rule, added, multiplied, ◌>>=◌}
 use Rattle.resolved_formulas.specs.Fractions.{fractions}
 
 -- ---- at fractions

@@ -3,17 +3,23 @@ use Rattle.std.proofs.Common.{◌≡◌, ◌<◌, ℕ, zero, suc, List, ◌∷�
 use Rattle.std.proofs.Math.IntN.{ℤ, pos, ◌*ℤ◌}
 use Rattle.std.specs.Prelude.{◌<ℤ◌, unsigned_abs, int_div, Result, Ok, Err}
 use Rattle.std.proofs.lemmas.Int.{ints}
-use Rattle.qe_syntax.specs.FromExactNumbers.{Divides, lcm_of, gcd_of, euclid, content_of, Frac, IsProper, SameValue, whole_frac, true_power, power_steps}
-use Rattle.qe_syntax.proofs.FromExactNumbers.{mul_positive, content_is, divides_both, one_divides, power_outcome}
-use Rattle.qe_syntax.specs.FromFormulaMeaning.{Integers, Form, scale, combine, gathered}
-use Rattle.qe_syntax.specs.declared.tree.Literal.{Literal}
-use Rattle.qe_syntax.specs.declared.tree.Literal.TheVariants.{Fits, Past}
-use Rattle.qe_syntax.specs.Trees.{TermTree, Named}
-use Rattle.qe_syntax.specs.Value.{NamedPoint, literal_number}
-use Rattle.qe_syntax.proofs.ValueLaw.{value_proper}
-use Rattle.qe_syntax.proofs.CongruenceLaw.{whole_in_lowest}
-use Rattle.resolved_formulas.specs.FractionRule.{◌>>=◌}
-use Rattle.resolved_formulas.specs.RationalForms.{RationalForm, Missing, Overflow, Nonlinear, numbers_of, formed_number, formed_form, lowest_form, is_constant, constant_of, sum_of_forms, multiple_of_form, product_of_forms, quotient_of_forms, small_power, as_constant, power_of_form, opposite_form, literal_form, forms, formed, formed_difference}
+use Rattle.exact_numbers.specs.Divides.{Divides, lcm_of, gcd_of, euclid, content_of}
+use Rattle.exact_numbers.specs.Frac.{Frac, IsProper, SameValue, whole_frac, true_power, power_steps}
+use Rattle.exact_numbers.proofs.Order.{mul_positive}
+use Rattle.exact_numbers.proofs.Contents.{content_is}
+use Rattle.exact_numbers.proofs.Divisibility.{divides_both, one_divides}
+use Rattle.exact_numbers.proofs.Powers.{power_outcome}
+use Rattle.logic_meaning.specs.Context.{Integers}
+use Rattle.logic_meaning.specs.Form.{Form, scale, combine}
+use Rattle.logic_meaning.specs.Sorted.{gathered}
+use Rattle.language_meaning.specs.declared.tree.Literal.{Literal}
+use Rattle.language_meaning.specs.declared.tree.Literal.TheVariants.{Fits, Past}
+use Rattle.language_meaning.specs.Trees.{TermTree, Named}
+use Rattle.language_meaning.specs.Value.{NamedPoint, literal_number}
+use Rattle.written_syntax.proofs.ValueLaw.{value_proper}
+use Rattle.written_syntax.proofs.CongruenceLaw.{whole_in_lowest}
+use Rattle.language_meaning.specs.FractionRule.{◌>>=◌}
+use Rattle.language_meaning.specs.RationalForms.{RationalForm, Missing, Overflow, Nonlinear, numbers_of, formed_number, formed_form, lowest_form, is_constant, constant_of, sum_of_forms, multiple_of_form, product_of_forms, quotient_of_forms, small_power, as_constant, power_of_form, opposite_form, literal_form, forms, formed, formed_difference}
 use Rattle.resolved_formulas.proofs.RuleLaw.{bind_ok, ok_same, KeepMeaning, rule_stands}
 use Rattle.resolved_formulas.proofs.FormSteps.{number_ok, power_proper}
 

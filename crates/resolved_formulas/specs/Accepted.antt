@@ -1,11 +1,11 @@
 -- A formula that no cause of a refusal in reading applies to.
 use Rattle.std.specs.Prelude.{ℕ, List}
-use Rattle.qe_syntax.specs.FromFormulaMeaning.{Context}
-use Rattle.qe_syntax.specs.Trees.{FormulaTree}
-use Rattle.resolved_formulas.specs.Resolving.{BoundTrees}
-use Rattle.formula_tree.specs.Names.{place}
-use Rattle.resolved_formulas.specs.NamesAfter.{names_after}
-use Rattle.resolved_formulas.specs.Causes.{IsUnbound, NamesFormulaAsTerm, IsNonlinear, Divides, CongruenceInFields, IsBadModulus, IsTooDeep, OverflowsInReading}
+use Rattle.logic_meaning.specs.Context.{Context}
+use Rattle.language_meaning.specs.Trees.{FormulaTree}
+use Rattle.language_meaning.specs.Resolving.{BoundTrees}
+use Rattle.logic_meaning.specs.Names.{place}
+use Rattle.language_meaning.specs.NamesAfter.{names_after}
+use Rattle.language_meaning.specs.Causes.{IsUnbound, NamesFormulaAsTerm, IsNonlinear, Divides, CongruenceInFields, IsBadModulus, IsTooDeep, OverflowsInReading}
 
 -- no cause applies
 pub record IsAccepted (c : Context) (bound : BoundTrees) (names : List (List ℕ)) (f : FormulaTree) : Type 0 where

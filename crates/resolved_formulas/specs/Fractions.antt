@@ -1,10 +1,10 @@
 -- The fraction rule as a kit of steps.
 use Rattle.std.specs.Prelude.{pos, Ok}
-use Rattle.qe_syntax.specs.FromExactNumbers.{Frac, whole_frac, negated, lowest, sum_step, product_step}
-use Rattle.qe_syntax.specs.declared.value.EvalError.{EvalError}
-use Rattle.qe_syntax.specs.Value.{NamedPoint}
-use Rattle.qe_syntax.specs.Rule.{stepped, literal_fraction, quotient_step, power_step}
-use Rattle.resolved_formulas.specs.FractionRule.{Steps}
+use Rattle.exact_numbers.specs.Frac.{Frac, whole_frac, negated, lowest, sum_step, product_step}
+use Rattle.written_syntax.specs.declared.value.EvalError.{EvalError}
+use Rattle.language_meaning.specs.Value.{NamedPoint}
+use Rattle.written_syntax.specs.Rule.{stepped, literal_fraction, quotient_step, power_step}
+use Rattle.language_meaning.specs.FractionRule.{Steps}
 
 -- the fractions at a point
 abbrev pub fractions : NamedPoint → Steps Frac EvalError

@@ -1,11 +1,4 @@
-pub mod FractionRule
 pub mod Fractions
-pub mod RationalForms
 pub mod LowestForms
 pub mod ResolvedLaws
-pub mod Somewhere
-pub mod Resolving
-pub mod NamesAfter
-pub mod Causes
 pub mod Accepted
-pub mod Answers

@@ -1,23 +1,28 @@
 -- What is proved of the fraction rule and of resolving, as statements that the functions of this crate promise.
 use Rattle.std.specs.Prelude.{◌≡◌, ℕ, ◌<◌, ◌↔◌, pos, ◌*ℤ◌, ◌<ℤ◌, List, Some, Ok, Err}
 use Rattle.std.specs.List.{IsDistinct}
-use Rattle.qe_syntax.specs.FromExactNumbers.{Frac, SameValue}
-use Rattle.qe_syntax.specs.FromFormulaMeaning.{Context, Point, Of, IsSorted, Every, height, Tree, TrueAt, IsFree}
-use Rattle.qe_syntax.specs.FromFormulaMeaning.form_rules as form
-use Rattle.atom_normal.specs.NormalForm.{IsNormal}
-use Rattle.qe_syntax.specs.Trees.{TermTree, FormulaTree}
-use Rattle.qe_syntax.specs.Value.{NamedPoint, value, HasName, same_name}
-use Rattle.qe_syntax.specs.Value as written
-use Rattle.qe_syntax.specs.Rule.{calculated}
-use Rattle.resolved_formulas.specs.FractionRule.{by_rule}
+use Rattle.exact_numbers.specs.Frac.{Frac, SameValue}
+use Rattle.logic_meaning.specs.Context.{Context}
+use Rattle.logic_meaning.specs.Point.{Point, Of}
+use Rattle.logic_meaning.specs.Sorted.{IsSorted}
+use Rattle.logic_meaning.specs.Every.{Every}
+use Rattle.logic_meaning.specs.Sizes.{height}
+use Rattle.logic_meaning.specs.Tree.{Tree, TrueAt, IsFree}
+use Rattle.logic_meaning.specs.Form as form
+use Rattle.logic_meaning.specs.NormalForm.{IsNormal}
+use Rattle.language_meaning.specs.Trees.{TermTree, FormulaTree}
+use Rattle.language_meaning.specs.Value.{NamedPoint, value, HasName, same_name}
+use Rattle.language_meaning.specs.Value as written
+use Rattle.written_syntax.specs.Rule.{calculated}
+use Rattle.language_meaning.specs.FractionRule.{by_rule}
 use Rattle.resolved_formulas.specs.Fractions.{fractions}
-use Rattle.formula_tree.specs.Bindings.{bound_to}
-use Rattle.resolved_formulas.specs.RationalForms.{RationalForm, Missing, Overflow, Nonlinear, Division, formed}
+use Rattle.logic_meaning.specs.Bindings.{bound_to}
+use Rattle.language_meaning.specs.RationalForms.{RationalForm, Missing, Overflow, Nonlinear, Division, formed}
 use Rattle.resolved_formulas.specs.LowestForms.{IsLowestForm}
-use Rattle.resolved_formulas.specs.Resolving.{BoundTrees, at_names, resolve, bound_truth, IsFreeInPlace}
-use Rattle.formula_tree.specs.Names.{place}
-use Rattle.resolved_formulas.specs.NamesAfter.{names_after}
-use Rattle.resolved_formulas.specs.Causes.{HasNonlinear, HasForbidden, height_in_place}
+use Rattle.language_meaning.specs.Resolving.{BoundTrees, at_names, resolve, bound_truth, IsFreeInPlace}
+use Rattle.logic_meaning.specs.Names.{place}
+use Rattle.language_meaning.specs.NamesAfter.{names_after}
+use Rattle.language_meaning.specs.Causes.{HasNonlinear, HasForbidden, height_in_place}
 use Rattle.resolved_formulas.specs.Accepted.{IsAccepted}
 
 -- what is calculated for a term is the rule at fractions

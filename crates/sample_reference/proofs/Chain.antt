@@ -6,23 +6,23 @@ use Rattle.std.proofs.lemmas.Int.{ints}
 use Rattle.exact_numbers.specs.Frac.{Frac}
 use Rattle.exact_numbers.proofs.Ring.{ring, one_mul}
 use Rattle.exact_numbers.proofs.Order.{cancel_positive}
-use Rattle.formula_meaning.specs.Context.{Context, Fields, Integers, Allowed}
-use Rattle.formula_meaning.specs.Point.{Point, Of, move}
-use Rattle.formula_meaning.specs.Points.{finer, AgreeOn}
-use Rattle.formula_meaning.specs.Some.{EachOf}
-use Rattle.formula_meaning.specs.Shape.{is_in}
-use Rattle.formula_meaning.specs.Tree.{Tree, TrueAt, IsFree}
-use Rattle.formula_meaning.proofs.FreeNames.{tree_agrees}
-use Rattle.formula_meaning.proofs.TreeFiner.{tree_finer, tree_same_point, allowed_positive}
-use Rattle.formula_meaning.proofs.TreeReplacing.{moved_of}
-use Rattle.formula_meaning.proofs.Values.{pos_mul}
-use Rattle.elimination_theory.specs.Answers.{Step}
+use Rattle.logic_meaning.specs.Context.{Context, Fields, Integers, Allowed}
+use Rattle.logic_meaning.specs.Point.{Point, Of, move}
+use Rattle.formula_laws.specs.Points.{finer, AgreeOn}
+use Rattle.logic_meaning.specs.Some.{EachOf}
+use Rattle.logic_meaning.specs.Shape.{is_in}
+use Rattle.logic_meaning.specs.Tree.{Tree, TrueAt, IsFree}
+use Rattle.formula_laws.proofs.FreeNames.{tree_agrees}
+use Rattle.formula_laws.proofs.TreeFiner.{tree_finer, tree_same_point, allowed_positive}
+use Rattle.formula_laws.proofs.TreeReplacing.{moved_of}
+use Rattle.formula_laws.proofs.Values.{pos_mul}
+use Rattle.logic_meaning.specs.Answers.{Step}
 use Rattle.elimination_theory.specs.AnswersTheorems.{Lead, Makes}
 use Rattle.elimination_theory.proofs.SomeListed.{each_append}
-use Rattle.elimination_reference.proofs.Branches.{step_names}
-use Rattle.elimination_reference.proofs.PutIn.{turn_equal, not_both}
-use Rattle.sample_reference.specs.Values.{Value, value_names, with_value, with_values, IsValue, common_denominator, point_over, origin}
-use Rattle.sample_reference.specs.Calculated.{step_value, values_from, place_value}
+use Rattle.elimination_theory.proofs.Branches.{step_names}
+use Rattle.elimination_theory.proofs.PutIn.{turn_equal, not_both}
+use Rattle.logic_meaning.specs.Values.{Value, value_names, with_value, with_values, IsValue, common_denominator, point_over, origin}
+use Rattle.logic_meaning.specs.Calculated.{step_value, values_from, place_value}
 use Rattle.sample_reference.proofs.SamePoints.{some_same, some_then, IsCommon, common_is, common_one, abs_above, same_point, moved_same, value_allowed, values_of_theory}
 use Rattle.sample_reference.proofs.OneValue.{one_value, turn_differ}
 

@@ -1,23 +1,23 @@
 -- The sample of a formula without free names is true.
 use Rattle.std.proofs.Common.{◌≡◌, ℕ, List, [], Option, Some, None, refl, ◌∙◌}
-use Rattle.formula_meaning.specs.Context.{Context}
-use Rattle.formula_meaning.specs.Formula.{Yes}
-use Rattle.formula_meaning.specs.Every.{Every}
-use Rattle.formula_meaning.specs.Tree.{Tree, TrueAt, IsFree}
-use Rattle.elimination_theory.specs.Answers.{Step}
-use Rattle.elimination_reference.specs.FromAtomNormal.{IsNormal}
-use Rattle.formula_meaning.specs.Measured.{Outcome, stopped, done, then_of}
-use Rattle.formula_meaning.specs.Giving.{Gives}
-use Rattle.elimination_reference.specs.Reference.{Branch, branch_trees, normal_tree, leading_branches}
-use Rattle.elimination_reference.specs.Cases.{case_sign, case_formula, case_matrix, case_names}
-use Rattle.elimination_reference.specs.Sample.{first_true}
-use Rattle.elimination_reference.proofs.Branches.{AreBranches}
-use Rattle.elimination_reference.proofs.CasesExact.{free}
-use Rattle.elimination_reference.proofs.Sample.{Chosen, found}
-use Rattle.elimination_reference.proofs.Sound.{leading_are}
-use Rattle.sample_reference.specs.Values.{Value, origin}
-use Rattle.sample_reference.specs.Calculated.{values_from}
-use Rattle.sample_reference.specs.Sample.{sampled}
+use Rattle.logic_meaning.specs.Context.{Context}
+use Rattle.logic_meaning.specs.Formula.{Yes}
+use Rattle.logic_meaning.specs.Every.{Every}
+use Rattle.logic_meaning.specs.Tree.{Tree, TrueAt, IsFree}
+use Rattle.logic_meaning.specs.Answers.{Step}
+use Rattle.logic_meaning.specs.NormalForm.{IsNormal}
+use Rattle.logic_meaning.specs.Measured.{Outcome, stopped, done, then_of}
+use Rattle.formula_laws.specs.Giving.{Gives}
+use Rattle.logic_meaning.specs.Reference.{Branch, branch_trees, normal_tree, leading_branches}
+use Rattle.logic_meaning.specs.Cases.{case_sign, case_formula, case_matrix, case_names}
+use Rattle.logic_meaning.specs.Sample.{first_true}
+use Rattle.elimination_theory.proofs.Branches.{AreBranches}
+use Rattle.elimination_theory.proofs.CasesExact.{free}
+use Rattle.elimination_theory.proofs.Sample.{Chosen, found}
+use Rattle.elimination_theory.proofs.Sound.{leading_are}
+use Rattle.logic_meaning.specs.Values.{Value, origin}
+use Rattle.logic_meaning.specs.Calculated.{values_from}
+use Rattle.logic_meaning.specs.ReferenceSample.{sampled}
 use Rattle.sample_reference.specs.TrueSample.{AreTrueValues, IsTrueSample}
 use Rattle.sample_reference.specs.Theorems.{ClosedSampleIsTrue}
 use Rattle.sample_reference.proofs.Chain.{AreFound, values_true, origin_of}

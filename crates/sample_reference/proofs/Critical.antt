@@ -7,15 +7,15 @@ use Rattle.exact_numbers.specs.Frac.{Frac, IsProper, lowest}
 use Rattle.exact_numbers.proofs.Ring.{ring, mul_zero, mul_comm, neg_mul}
 use Rattle.exact_numbers.proofs.Order.{cancel}
 use Rattle.exact_numbers.proofs.FractionRule.{lowest_proper, lowest_value}
-use Rattle.formula_meaning.specs.Context.{Fields}
-use Rattle.formula_meaning.specs.Point.{Point, move}
-use Rattle.formula_meaning.specs.Some.{Among, SomeOf, EachOf}
-use Rattle.formula_meaning.specs.Form.{Form, Term, total, value, coefficient, without, others}
-use Rattle.formula_meaning.specs.Atom.{Atom, Compare, Congruent, form_of}
-use Rattle.formula_meaning.specs.TheoryAtoms.{AtomIn}
-use Rattle.formula_meaning.proofs.Values.{value_move}
-use Rattle.formula_meaning.proofs.FreeNames.{multiple_others, value_agrees}
-use Rattle.sample_reference.specs.Calculated.{root_of, atom_root, with_root, critical_values}
+use Rattle.logic_meaning.specs.Context.{Fields}
+use Rattle.logic_meaning.specs.Point.{Point, move}
+use Rattle.logic_meaning.specs.Some.{Among, SomeOf, EachOf}
+use Rattle.logic_meaning.specs.Form.{Form, Term, total, value, coefficient, without, others}
+use Rattle.logic_meaning.specs.Atom.{Atom, Compare, Congruent, form_of}
+use Rattle.formula_laws.specs.TheoryAtoms.{AtomIn}
+use Rattle.formula_laws.proofs.Values.{value_move}
+use Rattle.formula_laws.proofs.FreeNames.{multiple_others, value_agrees}
+use Rattle.logic_meaning.specs.Calculated.{root_of, atom_root, with_root, critical_values}
 use Rattle.sample_reference.proofs.SamePoints.{some_same, none_some, abs_positive}
 
 -- no other name stands in the form

@@ -11,18 +11,18 @@ use Rattle.exact_numbers.proofs.Order.{cancel_positive}
 use Rattle.exact_numbers.proofs.Divisibility.{divides_both}
 use Rattle.exact_numbers.proofs.FractionRule.{lowest_is}
 use Rattle.exact_numbers.proofs.GreatestDivisor.{bezout}
-use Rattle.formula_meaning.specs.Some.{Among, EachOf}
-use Rattle.formula_meaning.specs.Same.{same_atom}
-use Rattle.formula_meaning.specs.Form.{coefficient}
-use Rattle.formula_meaning.specs.Atom.{Atom, Compare, Congruent}
-use Rattle.formula_meaning.specs.Tree.{Tree}
-use Rattle.formula_meaning.proofs.Listed.{some_among, among_some}
-use Rattle.formula_meaning.proofs.Same.{atom_same}
-use Rattle.elimination_theory.specs.declared.side.Side.{Side}
-use Rattle.elimination_theory.specs.Atoms.{atoms_in, atoms_of}
+use Rattle.logic_meaning.specs.Some.{Among, EachOf}
+use Rattle.logic_meaning.specs.Same.{same_atom}
+use Rattle.logic_meaning.specs.Form.{coefficient}
+use Rattle.logic_meaning.specs.Atom.{Atom, Compare, Congruent}
+use Rattle.logic_meaning.specs.Tree.{Tree}
+use Rattle.formula_laws.proofs.Listed.{some_among, among_some}
+use Rattle.formula_laws.proofs.Same.{atom_same}
+use Rattle.logic_meaning.specs.declared.side.Side.{Side}
+use Rattle.logic_meaning.specs.Atoms.{atoms_in, atoms_of}
 use Rattle.elimination_theory.proofs.SomeListed.{some_distinct, some_of_distinct}
-use Rattle.sample_reference.specs.Values.{origin}
-use Rattle.sample_reference.specs.Calculated.{root_of, atom_root, critical_values, least_past, seen, seen_from}
+use Rattle.logic_meaning.specs.Values.{origin}
+use Rattle.logic_meaning.specs.Calculated.{root_of, atom_root, critical_values, least_past, seen, seen_from}
 use Rattle.sample_reference.proofs.Critical.{roots_proper, from_atom, to_atom}
 use Rattle.sample_reference.proofs.Leasts.{Less, AtMost, next_above, none_above, first_of, none_at_all}
 use Rattle.sample_reference.proofs.SamePoints.{some_same, none_some}

@@ -4,21 +4,22 @@ use Rattle.std.proofs.Math.IntN.{ℤ, pos, negsuc}
 use Rattle.exact_numbers.specs.Divides.{content_of, gcd_of, lcm_of, euclid}
 use Rattle.exact_numbers.specs.Frac.{Frac, inverted, sum_step, product_step}
 use Rattle.exact_numbers.specs.Limit.{checked}
-use Rattle.formula_meaning.specs.Context.{Fields, Integers}
-use Rattle.formula_meaning.specs.Point.{Point}
-use Rattle.formula_meaning.specs.Formula.{One, And}
-use Rattle.formula_meaning.specs.NegationNormal.{both}
-use Rattle.formula_meaning.specs.Form.{Form, coefficient, without, scale, combine, plus}
-use Rattle.formula_meaning.specs.Sorted.{gathered}
-use Rattle.formula_meaning.specs.Atom.{Relation, Differs, Below, AtMost, Above, AtLeast, Compare, Congruent}
-use Rattle.formula_meaning.specs.Answer.{BelowBy, PlusInfinity, Periodic}
-use Rattle.formula_meaning.specs.Tree.{Tree}
+use Rattle.logic_meaning.specs.Context.{Fields, Integers}
+use Rattle.logic_meaning.specs.Point.{Point}
+use Rattle.logic_meaning.specs.Formula.{One, And}
+use Rattle.logic_meaning.specs.NegationNormal.{both}
+use Rattle.logic_meaning.specs.Form.{Form, coefficient, without, scale, combine, plus}
+use Rattle.logic_meaning.specs.Sorted.{gathered}
+use Rattle.logic_meaning.specs.Atom.{Relation, Differs, Below, AtMost, Above, AtLeast, Compare, Congruent}
+use Rattle.logic_meaning.specs.Answer.{BelowBy, PlusInfinity, Periodic}
+use Rattle.logic_meaning.specs.Tree.{Tree}
 use Rattle.elimination_theory.specs.FieldsExample.{named, multiple_of}
-use Rattle.elimination_theory.specs.FieldsPoints.{form_over}
-use Rattle.elimination_reference.specs.FromLinearForms.{value_steps, total_steps, quotient, residue_form}
-use Rattle.elimination_reference.specs.FromAtomNormal.{normal_atom}
-use Rattle.sample_reference.specs.Values.{origin}
-use Rattle.sample_reference.specs.Calculated.{place_value}
+use Rattle.logic_meaning.specs.FieldsPoints.{form_over}
+use Rattle.logic_meaning.specs.Terms.{value_steps, total_steps}
+use Rattle.logic_meaning.specs.Reduction.{quotient, residue_form}
+use Rattle.logic_meaning.specs.NormalForm.{normal_atom}
+use Rattle.logic_meaning.specs.Values.{origin}
+use Rattle.logic_meaning.specs.Calculated.{place_value}
 
 -- n * x + k
 abbrev of_x : ℤ → ℤ → Form

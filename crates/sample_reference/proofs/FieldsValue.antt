@@ -8,28 +8,28 @@ use Rattle.exact_numbers.specs.ExactSteps.{SumPasses, IsExactSum, ProductPasses,
 use Rattle.exact_numbers.proofs.Ring.{ring, mul_one, one_mul, zero_mul}
 use Rattle.exact_numbers.proofs.Order.{cancel_positive, cancel_less, mul_less}
 use Rattle.exact_numbers.proofs.FractionRule.{lowest_proper, lowest_value, sum_step_gives, product_step_gives, whole_lowest}
-use Rattle.formula_meaning.specs.Context.{Context, Fields}
-use Rattle.formula_meaning.specs.Point.{Point}
-use Rattle.formula_meaning.specs.Some.{Among, EachOf}
-use Rattle.formula_meaning.specs.Form.{Form, value, total}
-use Rattle.formula_meaning.specs.Atom.{form_of}
-use Rattle.formula_meaning.specs.TheoryAtoms.{AtomIn}
-use Rattle.formula_meaning.specs.Answer.{Place, Exact, AboveBy, BelowBy, PlusInfinity, MinusInfinity, Periodic}
-use Rattle.formula_meaning.specs.Tree.{Tree}
-use Rattle.formula_meaning.proofs.Values.{pos_mul}
-use Rattle.elimination_reference.specs.FromLinearForms.{value_steps, ValuePasses}
-use Rattle.elimination_reference.proofs.FromLinearForms.{value_steps_given}
-use Rattle.elimination_theory.specs.declared.side.Side.{Side}
-use Rattle.elimination_theory.specs.declared.side.Side.TheVariants.{Lower, Upper}
-use Rattle.elimination_theory.specs.Atoms.{atoms_of}
-use Rattle.elimination_theory.specs.IntegersPoints.{signed}
-use Rattle.elimination_theory.specs.FieldsSubstitution.{IsFieldPlace}
+use Rattle.logic_meaning.specs.Context.{Context, Fields}
+use Rattle.logic_meaning.specs.Point.{Point}
+use Rattle.logic_meaning.specs.Some.{Among, EachOf}
+use Rattle.logic_meaning.specs.Form.{Form, value, total}
+use Rattle.logic_meaning.specs.Atom.{form_of}
+use Rattle.formula_laws.specs.TheoryAtoms.{AtomIn}
+use Rattle.logic_meaning.specs.Answer.{Place, Exact, AboveBy, BelowBy, PlusInfinity, MinusInfinity, Periodic}
+use Rattle.logic_meaning.specs.Tree.{Tree}
+use Rattle.formula_laws.proofs.Values.{pos_mul}
+use Rattle.logic_meaning.specs.Terms.{value_steps, ValuePasses}
+use Rattle.elimination_theory.proofs.FromLinearForms.{value_steps_given}
+use Rattle.logic_meaning.specs.declared.side.Side.{Side}
+use Rattle.logic_meaning.specs.declared.side.Side.TheVariants.{Lower, Upper}
+use Rattle.logic_meaning.specs.Atoms.{atoms_of}
+use Rattle.logic_meaning.specs.IntegersPoints.{signed}
+use Rattle.logic_meaning.specs.FieldsSubstitution.{IsFieldPlace}
 use Rattle.elimination_theory.specs.FieldsSamples.{IsFieldSample}
-use Rattle.elimination_theory.specs.FieldsOrder.{IsLess}
+use Rattle.logic_meaning.specs.FieldsOrder.{IsLess}
 use Rattle.elimination_theory.proofs.FieldsSample.{twice}
 use Rattle.elimination_theory.proofs.Fractions.{at_most_less, less_at_most}
-use Rattle.elimination_reference.specs.PutIn.{tree_put, tree_put_within}
-use Rattle.sample_reference.specs.Calculated.{critical_values, criticals, least_past, form_value, half, just_past, below_all, seen, value_beside, value_beyond, beside_form, beyond_criticals, place_value}
+use Rattle.logic_meaning.specs.PutIn.{tree_put, tree_put_within}
+use Rattle.logic_meaning.specs.Calculated.{critical_values, criticals, least_past, form_value, half, just_past, below_all, seen, value_beside, value_beyond, beside_form, beyond_criticals, place_value}
 use Rattle.sample_reference.proofs.SamePoints.{some_same, none_some, some_then, abs_positive, abs_above}
 use Rattle.sample_reference.proofs.Leasts.{Less, AtMost, next_above, none_above, first_of, none_at_all}
 use Rattle.sample_reference.proofs.Critical.{Alone}

@@ -12,28 +12,28 @@ use Rattle.exact_numbers.proofs.Divisibility.{divides_same, divides_along, divis
 use Rattle.exact_numbers.proofs.Floor.{floor_is, residue_is, at_most_floor, from_at_most_floor}
 use Rattle.exact_numbers.proofs.FractionRule.{whole_lowest}
 use Rattle.exact_numbers.proofs.Limits.{checked_some}
-use Rattle.formula_meaning.specs.Context.{Integers}
-use Rattle.formula_meaning.specs.Point.{Point, move}
-use Rattle.formula_meaning.specs.Every.{Every}
-use Rattle.formula_meaning.specs.Some.{Among, SomeOf, EachOf}
-use Rattle.formula_meaning.specs.Form.{Form, value, coefficient}
-use Rattle.formula_meaning.specs.Atom.{Atom, Compare, Congruent, form_of}
-use Rattle.formula_meaning.specs.Answer.{Place, Exact, AboveBy, BelowBy, PlusInfinity, MinusInfinity, Periodic, Holds}
-use Rattle.formula_meaning.specs.Tree.{Tree}
-use Rattle.formula_meaning.proofs.Listed.{among_some, some_among}
-use Rattle.elimination_theory.specs.declared.side.Side.{Side}
-use Rattle.elimination_theory.specs.declared.side.Side.TheVariants.{Lower, Upper}
-use Rattle.elimination_theory.specs.Atoms.{atoms_of}
-use Rattle.elimination_theory.specs.IntegersPoints.{signed}
-use Rattle.elimination_theory.specs.IntegersSubstitution.{along}
+use Rattle.logic_meaning.specs.Context.{Integers}
+use Rattle.logic_meaning.specs.Point.{Point, move}
+use Rattle.logic_meaning.specs.Every.{Every}
+use Rattle.logic_meaning.specs.Some.{Among, SomeOf, EachOf}
+use Rattle.logic_meaning.specs.Form.{Form, value, coefficient}
+use Rattle.logic_meaning.specs.Atom.{Atom, Compare, Congruent, form_of}
+use Rattle.logic_meaning.specs.Answer.{Place, Exact, AboveBy, BelowBy, PlusInfinity, MinusInfinity, Periodic, Holds}
+use Rattle.logic_meaning.specs.Tree.{Tree}
+use Rattle.formula_laws.proofs.Listed.{among_some, some_among}
+use Rattle.logic_meaning.specs.declared.side.Side.{Side}
+use Rattle.logic_meaning.specs.declared.side.Side.TheVariants.{Lower, Upper}
+use Rattle.logic_meaning.specs.Atoms.{atoms_of}
+use Rattle.logic_meaning.specs.IntegersPoints.{signed}
+use Rattle.logic_meaning.specs.IntegersSubstitution.{along}
 use Rattle.elimination_theory.specs.AtPlace.{at_place}
-use Rattle.elimination_theory.specs.IntegerPlace.{IsIntegerPlace}
+use Rattle.logic_meaning.specs.IntegerPlace.{IsIntegerPlace}
 use Rattle.elimination_theory.proofs.Fractions.{less_at_most}
 use Rattle.elimination_theory.specs.IntegersSample.{IsPast, LiesBeyond, HasCriticalValue, IsClassSample, IsIntegerSample}
 use Rattle.elimination_theory.proofs.IntegerSides.{signed_signed, signed_mul}
 use Rattle.elimination_theory.proofs.SomeListed.{each_among, every_of_atoms, atoms_of_every}
-use Rattle.elimination_reference.specs.PutIn.{tree_put}
-use Rattle.sample_reference.specs.Calculated.{atom_root, critical_values, criticals, least_past, form_value, whole_below, class_member, class_below, seen, value_in_class, class_beyond, place_value}
+use Rattle.logic_meaning.specs.PutIn.{tree_put}
+use Rattle.logic_meaning.specs.Calculated.{atom_root, critical_values, criticals, least_past, form_value, whole_below, class_member, class_below, seen, value_in_class, class_beyond, place_value}
 use Rattle.sample_reference.proofs.SamePoints.{some_same, none_some, some_then}
 use Rattle.sample_reference.proofs.Leasts.{AtMost, first_of, none_at_all}
 use Rattle.sample_reference.proofs.Critical.{Alone, line, root_is, root_there, roots_proper, from_atom, to_atom}

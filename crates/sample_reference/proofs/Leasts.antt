@@ -4,10 +4,10 @@ use Rattle.std.proofs.Math.IntN.{ℤ, ◌*ℤ◌}
 use Rattle.std.specs.Prelude.{◌<ℤ◌, ◌≤ℤ◌, int_lt}
 use Rattle.std.proofs.lemmas.Int.{ints}
 use Rattle.exact_numbers.specs.Frac.{Frac, IsProper}
-use Rattle.formula_meaning.specs.Some.{Among, EachOf}
+use Rattle.logic_meaning.specs.Some.{Among, EachOf}
 use Rattle.elimination_theory.proofs.Fractions.{at_most_at_most}
 use Rattle.elimination_theory.proofs.SomeListed.{each_among}
-use Rattle.sample_reference.specs.Calculated.{is_less, lesser, least_with, past, least_past}
+use Rattle.logic_meaning.specs.Calculated.{is_less, lesser, least_with, past, least_past}
 use Rattle.sample_reference.proofs.SamePoints.{some_same, none_some}
 
 -- ---- the order of fractions

@@ -11,4 +11,6 @@ pub mod OneValue
 pub mod Chain
 pub mod Sound
 pub mod Closed
-pub mod FromEliminationReference
+mod SentenceTheoryExamples
+pub mod Constants
+pub mod Witnesses

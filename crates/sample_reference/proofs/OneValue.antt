@@ -5,33 +5,33 @@ use Rattle.exact_numbers.specs.Divides.{Divides}
 use Rattle.exact_numbers.specs.Frac.{Frac}
 use Rattle.exact_numbers.proofs.Ring.{ring, mul_add, mul_zero, one_mul}
 use Rattle.exact_numbers.proofs.Order.{by_zero}
-use Rattle.formula_meaning.specs.Context.{Context, Fields, Integers, Allowed}
-use Rattle.formula_meaning.specs.Point.{Point, Of, move}
-use Rattle.formula_meaning.specs.Formula.{Yes, No, One, Not, And, Or, Impl, Repl, Equiv, Ex, All, none, also}
-use Rattle.formula_meaning.specs.Every.{Every}
-use Rattle.formula_meaning.specs.Some.{EachOf}
-use Rattle.formula_meaning.specs.Shape.{is_in}
-use Rattle.formula_meaning.specs.Plain.{IsPlain, ArePlain, IsAtomic}
-use Rattle.formula_meaning.specs.Form.{Form, Term, multiple, coefficient}
-use Rattle.formula_meaning.specs.Atom.{Atom, Compare, Congruent, form_of}
-use Rattle.formula_meaning.specs.TheoryAtoms.{AtomIn}
-use Rattle.formula_meaning.specs.Replaced.{replaced, all_replaced}
-use Rattle.formula_meaning.specs.Answer.{Place, Exact, AboveBy, BelowBy, PlusInfinity, MinusInfinity, Periodic, Holds}
-use Rattle.formula_meaning.specs.Tree.{Tree, Trees, TrueAt, IsFree}
-use Rattle.formula_meaning.specs.Equivalence.{InContext}
-use Rattle.formula_meaning.proofs.EachAtom.{every_map, every_both, every_all}
-use Rattle.formula_meaning.proofs.ReplacedShape.{every_replaced}
-use Rattle.formula_meaning.proofs.TreeReplacing.{moved_of}
-use Rattle.formula_meaning.proofs.Values.{pos_mul}
+use Rattle.logic_meaning.specs.Context.{Context, Fields, Integers, Allowed}
+use Rattle.logic_meaning.specs.Point.{Point, Of, move}
+use Rattle.logic_meaning.specs.Formula.{Yes, No, One, Not, And, Or, Impl, Repl, Equiv, Ex, All, none, also}
+use Rattle.logic_meaning.specs.Every.{Every}
+use Rattle.logic_meaning.specs.Some.{EachOf}
+use Rattle.logic_meaning.specs.Shape.{is_in}
+use Rattle.logic_meaning.specs.Plain.{IsPlain, ArePlain, IsAtomic}
+use Rattle.logic_meaning.specs.Form.{Form, Term, multiple, coefficient}
+use Rattle.logic_meaning.specs.Atom.{Atom, Compare, Congruent, form_of}
+use Rattle.formula_laws.specs.TheoryAtoms.{AtomIn}
+use Rattle.logic_meaning.specs.Replaced.{replaced, all_replaced}
+use Rattle.logic_meaning.specs.Answer.{Place, Exact, AboveBy, BelowBy, PlusInfinity, MinusInfinity, Periodic, Holds}
+use Rattle.logic_meaning.specs.Tree.{Tree, Trees, TrueAt, IsFree}
+use Rattle.formula_laws.specs.Equivalence.{InContext}
+use Rattle.formula_laws.proofs.EachAtom.{every_map, every_both, every_all}
+use Rattle.formula_laws.proofs.ReplacedShape.{every_replaced}
+use Rattle.formula_laws.proofs.TreeReplacing.{moved_of}
+use Rattle.formula_laws.proofs.Values.{pos_mul}
 use Rattle.elimination_theory.specs.AtPlace.{at_place}
 use Rattle.elimination_theory.specs.IntegersTheorems.{IsPeriodOf, Suits}
-use Rattle.elimination_theory.specs.IntegerPlace.{IsIntegerPlace}
-use Rattle.elimination_theory.specs.BothTheories.{IsPlaceIn}
+use Rattle.logic_meaning.specs.IntegerPlace.{IsIntegerPlace}
+use Rattle.logic_meaning.specs.BothTheories.{IsPlaceIn}
 use Rattle.elimination_theory.specs.Places.{IsPlaceFor}
 use Rattle.elimination_theory.specs.Samples.{IsSample}
-use Rattle.elimination_theory.specs.Answers.{Step}
+use Rattle.logic_meaning.specs.Answers.{Step}
 use Rattle.elimination_theory.specs.AnswersTheorems.{Makes}
-use Rattle.elimination_theory.specs.Atoms.{atoms_of}
+use Rattle.logic_meaning.specs.Atoms.{atoms_of}
 use Rattle.elimination_theory.proofs.Meets.{meets_map}
 use Rattle.elimination_theory.proofs.Simple.{simple_from, replaced_plain}
 use Rattle.elimination_theory.proofs.BothSubstitutions.{place_in}
@@ -39,13 +39,13 @@ use Rattle.elimination_theory.proofs.SomeListed.{atoms_of_every}
 use Rattle.elimination_theory.proofs.Answers.{step_holds}
 use Rattle.elimination_theory.proofs.FieldsSample.{sample_is_true as field_sample_is_true}
 use Rattle.elimination_theory.proofs.IntegerSample.{sample_is_true as integer_sample_is_true}
-use Rattle.elimination_reference.specs.FromAtomNormal.{normal_atom}
-use Rattle.elimination_reference.proofs.FromAtomNormal.{normal_names, normal_within, normal_atomic}
-use Rattle.elimination_reference.specs.PutIn.{terms_kept, form_put, atom_put, tree_put, trees_put}
-use Rattle.elimination_reference.proofs.PutIn.{Mixes, put_in_context, put_true, turn_equal, not_both}
-use Rattle.elimination_reference.proofs.Periods.{normal_keeps_periods}
-use Rattle.sample_reference.specs.Values.{with_value, IsValue}
-use Rattle.sample_reference.specs.Calculated.{place_value}
+use Rattle.logic_meaning.specs.NormalForm.{normal_atom}
+use Rattle.elimination_theory.proofs.FromNormalAtoms.{normal_names, normal_within, normal_atomic}
+use Rattle.logic_meaning.specs.PutIn.{terms_kept, form_put, atom_put, tree_put, trees_put}
+use Rattle.elimination_theory.proofs.PutIn.{Mixes, put_in_context, put_true, turn_equal, not_both}
+use Rattle.elimination_theory.proofs.Periods.{normal_keeps_periods}
+use Rattle.logic_meaning.specs.Values.{with_value, IsValue}
+use Rattle.logic_meaning.specs.Calculated.{place_value}
 use Rattle.sample_reference.proofs.SamePoints.{value_allowed}
 use Rattle.sample_reference.proofs.Critical.{Alone}
 use Rattle.sample_reference.proofs.FieldsValue.{field_sample}

@@ -11,13 +11,13 @@ use Rattle.exact_numbers.proofs.Ring.{ring, mul_comm, mul_assoc, zero_mul}
 use Rattle.exact_numbers.proofs.Divisibility.{divides_trans, divides_same, divides_along}
 use Rattle.exact_numbers.proofs.LeastMultiple.{exact_div, lcm_is}
 use Rattle.exact_numbers.proofs.Limits.{checked_some}
-use Rattle.formula_meaning.specs.Context.{Context, Fields, Integers, Allowed}
-use Rattle.formula_meaning.specs.Point.{Point, Of, move}
-use Rattle.formula_meaning.specs.Points.{IsSamePoint}
-use Rattle.formula_meaning.specs.Some.{EachOf}
-use Rattle.formula_meaning.proofs.Values.{pos_mul}
-use Rattle.formula_meaning.proofs.TreeReplacing.{moved_of}
-use Rattle.sample_reference.specs.Values.{Value, with_value, with_values, IsValue, multiple_with, numerators_within, common_denominator, numbers_over, point_over, origin}
+use Rattle.logic_meaning.specs.Context.{Context, Fields, Integers, Allowed}
+use Rattle.logic_meaning.specs.Point.{Point, Of, move}
+use Rattle.formula_laws.specs.Points.{IsSamePoint}
+use Rattle.logic_meaning.specs.Some.{EachOf}
+use Rattle.formula_laws.proofs.Values.{pos_mul}
+use Rattle.formula_laws.proofs.TreeReplacing.{moved_of}
+use Rattle.logic_meaning.specs.Values.{Value, with_value, with_values, IsValue, multiple_with, numerators_within, common_denominator, numbers_over, point_over, origin}
 
 -- ---- positive whole numbers
 

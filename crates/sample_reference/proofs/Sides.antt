@@ -6,21 +6,21 @@ use Rattle.std.proofs.lemmas.Int.{ints}
 use Rattle.exact_numbers.specs.Frac.{Frac, IsProper, IsLowest}
 use Rattle.exact_numbers.proofs.Ring.{neg_mul}
 use Rattle.exact_numbers.proofs.Divisibility.{divides_neg, divides_along}
-use Rattle.formula_meaning.specs.Context.{Fields}
-use Rattle.formula_meaning.specs.Point.{Point}
-use Rattle.formula_meaning.specs.Some.{Among, EachOf}
-use Rattle.formula_meaning.specs.Atom.{form_of}
-use Rattle.formula_meaning.specs.TheoryAtoms.{AtomIn}
-use Rattle.formula_meaning.specs.Tree.{Tree}
-use Rattle.elimination_theory.specs.declared.side.Side.{Side}
-use Rattle.elimination_theory.specs.declared.side.Side.TheVariants.{Lower, Upper}
-use Rattle.elimination_theory.specs.Atoms.{atoms_of}
-use Rattle.elimination_theory.specs.IntegersPoints.{signed}
+use Rattle.logic_meaning.specs.Context.{Fields}
+use Rattle.logic_meaning.specs.Point.{Point}
+use Rattle.logic_meaning.specs.Some.{Among, EachOf}
+use Rattle.logic_meaning.specs.Atom.{form_of}
+use Rattle.formula_laws.specs.TheoryAtoms.{AtomIn}
+use Rattle.logic_meaning.specs.Tree.{Tree}
+use Rattle.logic_meaning.specs.declared.side.Side.{Side}
+use Rattle.logic_meaning.specs.declared.side.Side.TheVariants.{Lower, Upper}
+use Rattle.logic_meaning.specs.Atoms.{atoms_of}
+use Rattle.logic_meaning.specs.IntegersPoints.{signed}
 use Rattle.elimination_theory.specs.FieldsSamples.{IsCritical, IsHalfway, IsJustPast, IsJustShort, IsBelowAll, IsAboveAll}
-use Rattle.elimination_theory.specs.FieldsOrder.{IsLess}
+use Rattle.logic_meaning.specs.FieldsOrder.{IsLess}
 use Rattle.elimination_theory.proofs.IntegerSides.{signed_signed}
 use Rattle.elimination_theory.proofs.SomeListed.{some_map, some_mapped, some_of_mapped}
-use Rattle.sample_reference.specs.Calculated.{critical_values, seen}
+use Rattle.logic_meaning.specs.Calculated.{critical_values, seen}
 use Rattle.sample_reference.proofs.SamePoints.{some_same, none_some}
 use Rattle.sample_reference.proofs.Critical.{Alone, ValueAt, roots_proper, from_atom, zero_at_roots, value_at_zero}
 

@@ -1,40 +1,40 @@
 -- The reference sample is true.
 use Rattle.std.proofs.Common.{◌≡◌, ℕ, Bool, true, false, List, [], ◌∷◌, Option, Some, None, ◌⊎◌, inl, inr, ⊎_elim, refl, sym, ap, ◌∙◌, subst, nat_eq, if◌then◌else◌}
-use Rattle.formula_meaning.specs.Context.{Context}
-use Rattle.formula_meaning.specs.Point.{Point, Of}
-use Rattle.formula_meaning.specs.Formula.{Yes, No, One, Not, And, Or, Impl, Repl, Equiv, Ex, All}
-use Rattle.formula_meaning.specs.Every.{Every}
-use Rattle.formula_meaning.specs.Some.{EachOf}
-use Rattle.formula_meaning.specs.Sizes.{nodes}
-use Rattle.formula_meaning.specs.Shape.{is_in, matrix_of, block_of}
-use Rattle.formula_meaning.specs.Plain.{IsNegationNormal}
-use Rattle.formula_meaning.specs.declared.quantifier.Quantifier.{Quantifier}
-use Rattle.formula_meaning.specs.declared.quantifier.Quantifier.TheVariants.{Exists, ForAll}
-use Rattle.formula_meaning.specs.Tree.{Tree, TrueAt, IsFree}
-use Rattle.formula_meaning.specs.Equivalence.{InContext}
-use Rattle.formula_meaning.proofs.FreeNames.{differ_names}
-use Rattle.formula_meaning.proofs.NormalShape.{normal_form_shape}
-use Rattle.elimination_theory.specs.Answers.{Step}
+use Rattle.logic_meaning.specs.Context.{Context}
+use Rattle.logic_meaning.specs.Point.{Point, Of}
+use Rattle.logic_meaning.specs.Formula.{Yes, No, One, Not, And, Or, Impl, Repl, Equiv, Ex, All}
+use Rattle.logic_meaning.specs.Every.{Every}
+use Rattle.logic_meaning.specs.Some.{EachOf}
+use Rattle.logic_meaning.specs.Sizes.{nodes}
+use Rattle.logic_meaning.specs.Shape.{is_in, matrix_of, block_of}
+use Rattle.logic_meaning.specs.Plain.{IsNegationNormal}
+use Rattle.logic_meaning.specs.declared.quantifier.Quantifier.{Quantifier}
+use Rattle.logic_meaning.specs.declared.quantifier.Quantifier.TheVariants.{Exists, ForAll}
+use Rattle.logic_meaning.specs.Tree.{Tree, TrueAt, IsFree}
+use Rattle.formula_laws.specs.Equivalence.{InContext}
+use Rattle.formula_laws.proofs.FreeNames.{differ_names}
+use Rattle.formula_laws.proofs.NormalShape.{normal_form_shape}
+use Rattle.logic_meaning.specs.Answers.{Step}
 use Rattle.elimination_theory.specs.AnswersTheorems.{Lead}
-use Rattle.elimination_reference.specs.FromAtomNormal.{IsNormal, normal_atom, negated_normal}
-use Rattle.elimination_reference.proofs.FromAtomNormal.{normal_atomic}
-use Rattle.formula_meaning.specs.Measured.{Outcome, stopped, done, then_of, pay, within}
-use Rattle.formula_meaning.specs.Giving.{Gives}
-use Rattle.elimination_reference.specs.Reference.{Branch, normal_tree, turned}
-use Rattle.elimination_reference.specs.Cases.{case_sign, case_formula, case_names}
-use Rattle.elimination_reference.specs.PutIn.{atom_put, tree_put, tree_put_within, put_in}
-use Rattle.elimination_reference.specs.Sample.{if_true, first_true, branches_at}
-use Rattle.elimination_reference.specs.Theorems.{IsChoice}
-use Rattle.elimination_reference.proofs.Always.{always_then, always_pay, always_within}
-use Rattle.elimination_reference.proofs.Branches.{step_names, IsBranch}
-use Rattle.elimination_reference.proofs.PutIn.{turn_equal, putting_in_exact}
-use Rattle.elimination_reference.proofs.PutMatrix.{put_shape, atomic_block, block_turned, matrix_same}
-use Rattle.elimination_reference.proofs.Sample.{samples_exact}
-use Rattle.elimination_reference.proofs.Sound.{Good, branches_are}
-use Rattle.elimination_reference.proofs.Turning.{normal_inside, normal_tree_inside, turned_brings}
-use Rattle.sample_reference.specs.Values.{Value, value_names, with_values}
-use Rattle.sample_reference.specs.Calculated.{values_from}
-use Rattle.sample_reference.specs.Sample.{evaluated, sampled}
+use Rattle.logic_meaning.specs.NormalForm.{IsNormal, normal_atom, negated_normal}
+use Rattle.elimination_theory.proofs.FromNormalAtoms.{normal_atomic}
+use Rattle.logic_meaning.specs.Measured.{Outcome, stopped, done, then_of, pay, within}
+use Rattle.formula_laws.specs.Giving.{Gives}
+use Rattle.logic_meaning.specs.Reference.{Branch, normal_tree, turned}
+use Rattle.logic_meaning.specs.Cases.{case_sign, case_formula, case_names}
+use Rattle.logic_meaning.specs.PutIn.{atom_put, tree_put, tree_put_within, put_in}
+use Rattle.logic_meaning.specs.Sample.{if_true, first_true, branches_at}
+use Rattle.elimination_theory.specs.Theorems.{IsChoice}
+use Rattle.elimination_theory.proofs.Always.{always_then, always_pay, always_within}
+use Rattle.elimination_theory.proofs.Branches.{step_names, IsBranch}
+use Rattle.elimination_theory.proofs.PutIn.{turn_equal, putting_in_exact}
+use Rattle.elimination_theory.proofs.PutMatrix.{put_shape, atomic_block, block_turned, matrix_same}
+use Rattle.elimination_theory.proofs.Sample.{samples_exact}
+use Rattle.elimination_theory.proofs.Sound.{Good, branches_are}
+use Rattle.elimination_theory.proofs.Turning.{normal_inside, normal_tree_inside, turned_brings}
+use Rattle.logic_meaning.specs.Values.{Value, value_names, with_values}
+use Rattle.logic_meaning.specs.Calculated.{values_from}
+use Rattle.logic_meaning.specs.ReferenceSample.{evaluated, sampled}
 use Rattle.sample_reference.specs.TrueSample.{AreTrueValues, IsTrueSample}
 use Rattle.sample_reference.specs.Theorems.{SampleIsTrue}
 use Rattle.sample_reference.proofs.SamePoints.{some_same, none_some, values_of_theory}

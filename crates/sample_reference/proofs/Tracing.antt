@@ -1,25 +1,25 @@
 -- Each step of a branch leaves the branch of the next.
 use Rattle.std.proofs.Common.{◌≡◌, ℕ, ◌+◌, ◌*◌, Bool, true, false, ◌&&◌, List, [], ◌∷◌, ◌++◌, map, refl, sym, ap, ◌∙◌, nat_eq, if◌then◌else◌, arith}
-use Rattle.formula_meaning.specs.Context.{Context}
-use Rattle.formula_meaning.specs.Formula.{Yes, No, One, Not, And, Or, Impl, Repl, Equiv, Ex, All}
-use Rattle.formula_meaning.specs.Some.{EachOf}
-use Rattle.formula_meaning.specs.Shape.{is_in}
-use Rattle.formula_meaning.specs.Sizes.{nodes}
-use Rattle.formula_meaning.specs.Answer.{Place}
-use Rattle.formula_meaning.specs.Tree.{Tree}
-use Rattle.elimination_theory.specs.Answers.{Step, zero_place}
-use Rattle.elimination_theory.specs.Atoms.{atoms_in, atoms_of}
-use Rattle.elimination_theory.specs.declared.side.Side.TheVariants.{Lower}
-use Rattle.elimination_theory.specs.BothTheories.{test_points}
-use Rattle.elimination_theory.specs.Steps.{Result, kept, results, result_at, step}
+use Rattle.logic_meaning.specs.Context.{Context}
+use Rattle.logic_meaning.specs.Formula.{Yes, No, One, Not, And, Or, Impl, Repl, Equiv, Ex, All}
+use Rattle.logic_meaning.specs.Some.{EachOf}
+use Rattle.logic_meaning.specs.Shape.{is_in}
+use Rattle.logic_meaning.specs.Sizes.{nodes}
+use Rattle.logic_meaning.specs.Answer.{Place}
+use Rattle.logic_meaning.specs.Tree.{Tree}
+use Rattle.logic_meaning.specs.Answers.{Step, zero_place}
+use Rattle.logic_meaning.specs.Atoms.{atoms_in, atoms_of}
+use Rattle.logic_meaning.specs.declared.side.Side.TheVariants.{Lower}
+use Rattle.logic_meaning.specs.BothTheories.{test_points}
+use Rattle.logic_meaning.specs.Steps.{Result, kept, results, result_at, step}
 use Rattle.elimination_theory.proofs.SomeListed.{each_append}
-use Rattle.elimination_reference.specs.FromAtomNormal.{normal_atom, negated_normal}
-use Rattle.formula_meaning.specs.Limits.{each, place_within}
-use Rattle.elimination_reference.specs.Limits.{atom_within, span_within, step_within}
-use Rattle.formula_meaning.specs.Measured.{Outcome, stopped, done, Counted, ◌>>=◌, give, pay, within}
-use Rattle.formula_meaning.specs.Giving.{Gives}
-use Rattle.elimination_reference.specs.Reference.{Branch, stands_among, kept_at_zero, next_branch, alone, together, turned, point_count, full_step, one_step, steps, closed, branches, members}
-use Rattle.elimination_reference.proofs.Always.{Always, always_then, always_map, always_give, always_pay, always_within}
+use Rattle.logic_meaning.specs.NormalForm.{normal_atom, negated_normal}
+use Rattle.logic_meaning.specs.Limits.{each, place_within}
+use Rattle.logic_meaning.specs.StopLimits.{atom_within, span_within, step_within}
+use Rattle.logic_meaning.specs.Measured.{Outcome, stopped, done, Counted, ◌>>=◌, give, pay, within}
+use Rattle.formula_laws.specs.Giving.{Gives}
+use Rattle.logic_meaning.specs.Reference.{Branch, stands_among, kept_at_zero, next_branch, alone, together, turned, point_count, full_step, one_step, steps, closed, branches, members}
+use Rattle.elimination_theory.proofs.Always.{Always, always_then, always_map, always_give, always_pay, always_within}
 use Rattle.sample_reference.specs.Traced.{Leaves, IsTraced}
 
 -- ---- lists

@@ -4,8 +4,8 @@ use Rattle.std.specs.declared.vec.Vec.{Vec}
 use Rattle.std.specs.declared.alloc.Global.{Global}
 use Rattle.exact_numbers.specs.declared.fraction.Fraction.{Fraction}
 use Rattle.exact_numbers.specs.Fraction.{frac_of}
-use Rattle.elimination_reference.specs.FromLinearForms.{VarId}
-use Rattle.sample_reference.specs.Values.{Value}
+use Rattle.logic_meaning.specs.declared.form.VarId.{VarId}
+use Rattle.logic_meaning.specs.Values.{Value}
 
 -- a name and its value
 abbrev pub value_of : VarId × Fraction → Value

@@ -1,13 +1,13 @@
 -- What is proved of the reference sample.
 use Rattle.std.specs.Prelude.{ℕ}
-use Rattle.formula_meaning.specs.Context.{Context}
-use Rattle.formula_meaning.specs.Every.{Every}
-use Rattle.formula_meaning.specs.Point.{Point, Of}
-use Rattle.formula_meaning.specs.Tree.{Tree, IsFree}
-use Rattle.elimination_reference.specs.FromAtomNormal.{IsNormal}
-use Rattle.formula_meaning.specs.Giving.{Gives}
-use Rattle.sample_reference.specs.Values.{origin}
-use Rattle.sample_reference.specs.Sample.{reference_sample}
+use Rattle.logic_meaning.specs.Context.{Context}
+use Rattle.logic_meaning.specs.Every.{Every}
+use Rattle.logic_meaning.specs.Point.{Point, Of}
+use Rattle.logic_meaning.specs.Tree.{Tree, IsFree}
+use Rattle.logic_meaning.specs.NormalForm.{IsNormal}
+use Rattle.formula_laws.specs.Giving.{Gives}
+use Rattle.logic_meaning.specs.Values.{origin}
+use Rattle.logic_meaning.specs.ReferenceSample.{reference_sample}
 use Rattle.sample_reference.specs.TrueSample.{closed_sample, IsTrueSample}
 
 -- At a point: where there are values the matrix is true with them, and there are none exactly where the formula is false.

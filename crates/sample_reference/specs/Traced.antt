@@ -1,14 +1,14 @@
 -- Branches come from one formula by the steps that they name.
 use Rattle.std.specs.Prelude.{◌≡◌, Bool, true, ◌&&◌, List, [], ◌∷◌, if◌then◌else◌}
-use Rattle.formula_meaning.specs.Context.{Context}
-use Rattle.formula_meaning.specs.Tree.{Tree}
-use Rattle.elimination_theory.specs.Answers.{Step}
-use Rattle.elimination_theory.specs.Atoms.{atoms_in, atoms_of}
-use Rattle.elimination_theory.specs.Steps.{result_at}
-use Rattle.elimination_reference.specs.FromAtomNormal.{normal_atom}
-use Rattle.formula_meaning.specs.Limits.{each, place_within}
-use Rattle.elimination_reference.specs.Limits.{atom_within}
-use Rattle.elimination_reference.specs.Reference.{Branch, stands_among}
+use Rattle.logic_meaning.specs.Context.{Context}
+use Rattle.logic_meaning.specs.Tree.{Tree}
+use Rattle.logic_meaning.specs.Answers.{Step}
+use Rattle.logic_meaning.specs.Atoms.{atoms_in, atoms_of}
+use Rattle.logic_meaning.specs.Steps.{result_at}
+use Rattle.logic_meaning.specs.NormalForm.{normal_atom}
+use Rattle.logic_meaning.specs.Limits.{each, place_within}
+use Rattle.logic_meaning.specs.StopLimits.{atom_within}
+use Rattle.logic_meaning.specs.Reference.{Branch, stands_among}
 
 -- what a step leaves of its branch; a branch without the name stays
 abbrev pub after_step : Context → Step → Tree

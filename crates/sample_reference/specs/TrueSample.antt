@@ -1,15 +1,15 @@
 -- What a sample owes.
 use Rattle.std.specs.Prelude.{◌≡◌, ℕ, List, Option, Some, None}
-use Rattle.formula_meaning.specs.Context.{Context}
-use Rattle.formula_meaning.specs.Point.{Point}
-use Rattle.formula_meaning.specs.Some.{EachOf}
-use Rattle.formula_meaning.specs.Tree.{Tree, TrueAt}
-use Rattle.formula_meaning.specs.Measured.{Outcome, then_of}
-use Rattle.elimination_reference.specs.Reference.{normal_tree, leading_branches}
-use Rattle.elimination_reference.specs.Cases.{case_sign, case_formula, case_matrix, case_names}
-use Rattle.elimination_reference.specs.Sample.{first_true}
-use Rattle.sample_reference.specs.Values.{Value, value_names, with_values, IsValue}
-use Rattle.sample_reference.specs.Sample.{sampled}
+use Rattle.logic_meaning.specs.Context.{Context}
+use Rattle.logic_meaning.specs.Point.{Point}
+use Rattle.logic_meaning.specs.Some.{EachOf}
+use Rattle.logic_meaning.specs.Tree.{Tree, TrueAt}
+use Rattle.logic_meaning.specs.Measured.{Outcome, then_of}
+use Rattle.logic_meaning.specs.Reference.{normal_tree, leading_branches}
+use Rattle.logic_meaning.specs.Cases.{case_sign, case_formula, case_matrix, case_names}
+use Rattle.logic_meaning.specs.Sample.{first_true}
+use Rattle.logic_meaning.specs.Values.{Value, value_names, with_values, IsValue}
+use Rattle.logic_meaning.specs.ReferenceSample.{sampled}
 
 module _ (c : Context) (limit : ℕ) where
   -- the sample of a formula without free names, and the cost

@@ -1,18 +1,18 @@
 -- The statement `true` has no cause of a refusal.
 use Rattle.std.proofs.Common.{◌≡◌, ⊎_elim, ℕ, Bool, length, ap, arith}
 use Rattle.std.specs.Prelude.{None}
-use Rattle.formula_meaning.specs.Context.{Context, Fields, Integers}
-use Rattle.formula_meaning.specs.Formula.{Yes}
-use Rattle.formula_meaning.specs.Tree.{Tree}
-use Rattle.statement_syntax.specs.Statements.{Echo}
-use Rattle.resolved_formulas.specs.Causes.{CongruenceInFields}
-use Rattle.redlog_printer.specs.Text.{tree_text}
-use Rattle.session_meaning.specs.declared.line.StatementError.{StatementError}
-use Rattle.session_meaning.specs.declared.line.StatementError.TheVariants as error
-use Rattle.session_meaning.specs.State.{State}
-use Rattle.session_meaning.specs.Meaning.{Meaning, meaning}
-use Rattle.session_meaning.specs.Causes.{IsFirst, HasLongLine, IsCause, MayBeCause}
-use Rattle.point_queries.specs.FromCommandTools.{use_of}
+use Rattle.logic_meaning.specs.Context.{Context, Fields, Integers}
+use Rattle.logic_meaning.specs.Formula.{Yes}
+use Rattle.logic_meaning.specs.Tree.{Tree}
+use Rattle.language_meaning.specs.Statements.{Echo}
+use Rattle.language_meaning.specs.Causes.{CongruenceInFields}
+use Rattle.logic_meaning.specs.Text.{tree_text}
+use Rattle.program_meaning.specs.declared.line.StatementError.{StatementError}
+use Rattle.program_meaning.specs.declared.line.StatementError.TheVariants as error
+use Rattle.program_meaning.specs.State.{State}
+use Rattle.program_meaning.specs.Meaning.{Meaning, meaning}
+use Rattle.program_meaning.specs.Causes.{IsFirst, HasLongLine, IsCause, MayBeCause}
+use Rattle.form_commands.specs.Replies.{use_of}
 use Rattle.session_commands.specs.Accepted.{TruthIsNeverRefused}
 
 abbrev of_true : Meaning

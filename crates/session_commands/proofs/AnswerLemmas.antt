@@ -1,31 +1,30 @@
 -- What a formula command answers is the answer of its statement.
-use Rattle.formula_meaning.specs.Tree.{Tree}
+use Rattle.logic_meaning.specs.Tree.{Tree, tree_distinct}
 use Rattle.std.proofs.Common.{⊎_elim, ap, ◌≡◌, ℕ, zero, suc, ◌<◌, ◌≤◌, arith, List, Bool, Some, None, Option, sym, subst, refl}
 use Rattle.std.specs.Prelude.{Result, Ok, Err, IfOk, OnOk, IfErr, OnErr}
-use Rattle.statement_syntax.specs.Statements.{CommandTree, ActionTree, Empty, Ignored, Finish, Choose, Say, Assign, Assume, Retract, StatementTree, Echo}
-use Rattle.statement_syntax.specs.declared.statement.Statement as written
-use Rattle.statement_syntax.specs.CodeTrees.{statement_tree}
-use Rattle.statement_syntax.specs.Inner.{WithInner, about, command_in, command_of}
-use Rattle.qe_syntax.specs.Holes.{InnerTree, Nest, Nests, nest, alone, beside, command_alone}
-use Rattle.qe_syntax.specs.Holes as inside
-use Rattle.redlog_reader.specs.Grammar.{Written, SpellsResult, resulting, SpellsAction, assign, SpellsStatement, nothing, acting}
-use Rattle.redlog_tokens.specs.declared.terminal.Terminal.{Terminal}
-use Rattle.redlog_reader.specs.Statement.{Spells}
-use Rattle.formula_meaning.specs.Tree.{tree_distinct}
-use Rattle.session_meaning.specs.declared.TheConstants.{MOST_SUBFORMULAS}
-use Rattle.session_meaning.specs.declared.line.Line.{Line}
-use Rattle.session_meaning.specs.State.{State, with_names, with_answers}
-use Rattle.session_meaning.specs.Inside.{inner_use, inner_meaning, Stops, SomeStops}
-use Rattle.point_queries.specs.FromCommandTools.{use_of, Refuses, IsStopped, IsFormulaAnswer, IsQueryAnswer, BindsFormula}
-use Rattle.session_meaning.specs.Meaning.{Answer, OfFormula, OfText, meaning, assumption_meaning, Meaning, MayGive}
-use Rattle.session_meaning.specs.Numbered.{numbered}
-use Rattle.session_meaning.specs.FormulaGiven.{GivesFormula}
-use Rattle.session_meaning.specs.Uses.{Use, formula_line}
-use Rattle.session_meaning.specs.Causes.{IsFirst}
-use Rattle.session_meaning.specs.Reply.{Tells, AnswersSaid, Answers, with_variables, RefusesAction, RefusesStatement, SpellsRefused, Reply}
+use Rattle.language_meaning.specs.Statements.{CommandTree, ActionTree, Empty, Ignored, Finish, Choose, Say, Assign, Assume, Retract, StatementTree, Echo}
+use Rattle.written_syntax.specs.declared.statement.Statement as written
+use Rattle.written_syntax.specs.StatementSyntaxCodeTrees.{statement_tree}
+use Rattle.language_meaning.specs.Inner.{WithInner, about, command_in, command_of}
+use Rattle.language_meaning.specs.Holes.{InnerTree, Nest, Nests, nest, alone, beside, command_alone}
+use Rattle.language_meaning.specs.Holes as inside
+use Rattle.language_meaning.specs.Grammar.{Written, SpellsResult, resulting, SpellsAction, assign, SpellsStatement, nothing, acting}
+use Rattle.language_meaning.specs.declared.terminal.Terminal.{Terminal}
+use Rattle.language_meaning.specs.Statement.{Spells}
+use Rattle.program_meaning.specs.declared.limit.TheConstants.{MOST_SUBFORMULAS}
+use Rattle.program_meaning.specs.declared.line.Line.{Line}
+use Rattle.program_meaning.specs.State.{State, with_names, with_answers}
+use Rattle.program_meaning.specs.Inside.{inner_use, inner_meaning, Stops, SomeStops}
+use Rattle.form_commands.specs.Replies.{use_of, Refuses, IsStopped, IsFormulaAnswer, IsQueryAnswer, BindsFormula}
+use Rattle.program_meaning.specs.Meaning.{Answer, OfFormula, OfText, meaning, assumption_meaning, Meaning, MayGive}
+use Rattle.session_state.specs.Numbered.{numbered}
+use Rattle.session_state.specs.FormulaGiven.{GivesFormula}
+use Rattle.program_meaning.specs.Uses.{Use, formula_line}
+use Rattle.program_meaning.specs.Causes.{IsFirst}
+use Rattle.program_meaning.specs.Reply.{Tells, AnswersSaid, Answers, with_variables, RefusesAction, RefusesStatement, SpellsRefused, Reply}
 use Rattle.session_commands.specs.Through.{IsStatementAnswer, IsStatementStopped}
-use Rattle.session_meaning.specs.declared.line.StatementError.{StatementError}
-use Rattle.session_meaning.specs.declared.line.StatementError.TheVariants as error
+use Rattle.program_meaning.specs.declared.line.StatementError.{StatementError}
+use Rattle.program_meaning.specs.declared.line.StatementError.TheVariants as error
 
 -- ---- statements bind formulas
 

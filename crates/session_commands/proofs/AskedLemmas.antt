@@ -1,20 +1,20 @@
 -- What the code's statements ask for, where they can be written.
 use Rattle.std.proofs.Common.{◌≡◌, ℕ, Option, Some, None, refl, ap, ◌∙◌, subst}
-use Rattle.qe_syntax.specs.declared.tree.Formula.{Formula}
-use Rattle.qe_syntax.specs.declared.tree.Formulas.{Formulas}
-use Rattle.qe_syntax.specs.CodeTrees.{term_tree, whole_formula, whole_formulas, formula_trees, named_tree, named_trees, inner_of, inners_of}
-use Rattle.qe_syntax.specs.Holes.{Nests, alone, together, command_count}
-use Rattle.qe_syntax.specs.Writable.{AreWritableFormulas}
-use Rattle.statement_syntax.specs.declared.statement.Command as code
-use Rattle.statement_syntax.specs.declared.statement.Command.TheVariants as command
-use Rattle.statement_syntax.specs.declared.statement.Action as acts
-use Rattle.statement_syntax.specs.declared.statement.Action.TheVariants as action
-use Rattle.statement_syntax.specs.CodeTrees.{whole_command, whole_action, action_tree}
-use Rattle.statement_syntax.specs.ConstraintLists.{AreConstraints, AreWeakConstraints}
-use Rattle.statement_syntax.specs.Statements.{Simpl, Qe, Qea, Certify, Check, Least, Say, Assign, Assume}
-use Rattle.statement_syntax.specs.Writable.{IsFormulaBeside, IsCommandOver}
-use Rattle.qe_syntax.proofs.Alone.{no_answers, all_same_named}
-use Rattle.inner_commands.proofs.Gathering.{together_alone}
+use Rattle.written_syntax.specs.declared.tree.Formula.{Formula}
+use Rattle.written_syntax.specs.declared.tree.Formulas.{Formulas}
+use Rattle.written_syntax.specs.CodeTrees.{term_tree, whole_formula, whole_formulas, formula_trees, named_tree, named_trees, inner_of, inners_of}
+use Rattle.language_meaning.specs.Holes.{Nests, alone, together, command_count}
+use Rattle.written_syntax.specs.Writable.{AreWritableFormulas}
+use Rattle.written_syntax.specs.declared.statement.Command as code
+use Rattle.written_syntax.specs.declared.statement.Command.TheVariants as command
+use Rattle.written_syntax.specs.declared.statement.Action as acts
+use Rattle.written_syntax.specs.declared.statement.Action.TheVariants as action
+use Rattle.written_syntax.specs.StatementSyntaxCodeTrees.{whole_command, whole_action, action_tree}
+use Rattle.written_syntax.specs.ConstraintLists.{AreConstraints, AreWeakConstraints}
+use Rattle.language_meaning.specs.Statements.{Simpl, Qe, Qea, Certify, Check, Least, Say, Assign, Assume}
+use Rattle.written_syntax.specs.StatementSyntaxWritable.{IsFormulaBeside, IsCommandOver}
+use Rattle.written_syntax.proofs.Alone.{no_answers, all_same_named}
+use Rattle.formula_resolving.proofs.Gathering.{together_alone}
 use Rattle.session_commands.specs.Asking.{asked_command, asked_action, formula_asked, formula_in, CanAskOf, CanActOf, IsWritten}
 use Rattle.session_commands.specs.Inner.{IsWrittenFormula}
 

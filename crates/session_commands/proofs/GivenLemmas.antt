@@ -2,60 +2,69 @@
 use Rattle.std.proofs.Common.{◌≡◌, ◌⊎◌, inl, inr, ⊎_elim, ℕ, ◌<◌, List, [], ◌∷◌, ◌++◌, Bool, true, Option, Some, None, sym, ap, ◌∙◌, subst, refl, length, codes, nat_eq, arith, ◌↔◌, ◌≤◌}
 use Rattle.std.proofs.lemmas.List.{length-append}
 use Rattle.std.specs.List.{fold}
-use Rattle.case_theory.specs.Direct.{direct_answer}
-use Rattle.formula_meaning.specs.Formula.{No, none, also}
-use Rattle.formula_meaning.specs.Point.{Of, Point}
-use Rattle.formula_meaning.specs.Same.{same_atom}
-use Rattle.formula_meaning.specs.Tree.{Tree, TrueAt}
-use Rattle.formula_meaning.proofs.Sizes.{distinct_count_within}
-use Rattle.qe_syntax.specs.Trees.{FormulaTree, FormulaTrees}
-use Rattle.qe_syntax.specs.CodeTrees.{formula_trees}
-use Rattle.statement_syntax.specs.Statements.{CommandTree, Pnf}
-use Rattle.qe_syntax.specs.Value.{NamedPoint}
-use Rattle.elimination_reference.proofs.Turning.{normal_truths, normal_inside}
-use Rattle.atom_normal.specs.NormalForm.{IsNormal}
-use Rattle.formula_meaning.specs.Atom.{Says}
-use Rattle.formula_meaning.specs.Every.{Every}
-use Rattle.formula_meaning.specs.Numbers.{IsAtomInLimit}
-use Rattle.formula_meaning.specs.Sizes.{nodes}
-use Rattle.formula_meaning.specs.Some.{EachOf}
-use Rattle.resolved_formulas.specs.Resolving.{BoundTrees, bound_truth, formula_variables, all_variables, resolve, at_names}
-use Rattle.qe_syntax.specs.Value as written
-use Rattle.redlog_printer.specs.Text.{tree_text}
-use Rattle.point_queries.specs.FromCommandTools.{use_of, Refuses, state_with, IsFormulaAnswer, forms_refusal, IsLongText, LineFault, static_refusal}
+use Rattle.logic_meaning.specs.Direct.{direct_answer}
+use Rattle.logic_meaning.specs.Formula.{No, none, also}
+use Rattle.logic_meaning.specs.Point.{Of, Point}
+use Rattle.logic_meaning.specs.Same.{same_atom}
+use Rattle.logic_meaning.specs.Tree.{Tree, TrueAt}
+use Rattle.formula_laws.proofs.Sizes.{distinct_count_within}
+use Rattle.language_meaning.specs.Trees.{FormulaTree, FormulaTrees}
+use Rattle.written_syntax.specs.CodeTrees.{formula_trees}
+use Rattle.language_meaning.specs.Statements.{CommandTree, Pnf}
+use Rattle.language_meaning.specs.Value.{NamedPoint}
+use Rattle.elimination_theory.proofs.Turning.{normal_truths, normal_inside}
+use Rattle.logic_meaning.specs.NormalForm.{IsNormal}
+use Rattle.logic_meaning.specs.Atom.{Says}
+use Rattle.logic_meaning.specs.Every.{Every}
+use Rattle.logic_meaning.specs.Numbers.{IsAtomInLimit}
+use Rattle.logic_meaning.specs.Sizes.{nodes}
+use Rattle.logic_meaning.specs.Some.{EachOf}
+use Rattle.language_meaning.specs.Resolving.{BoundTrees, bound_truth, formula_variables, all_variables, resolve, at_names}
+use Rattle.language_meaning.specs.Value as written
+use Rattle.logic_meaning.specs.Text.{tree_text}
+use Rattle.form_commands.specs.Replies.{use_of, Refuses, state_with, IsFormulaAnswer}
+use Rattle.form_commands.specs.Refusals.{forms_refusal, IsLongText, LineFault, static_refusal}
 use Rattle.session_commands.specs.Steps.{given_trees, form_of, command_of, HasUnwantedQuantifier, IsReady, IsUnready, MayBind, TargetFault, HasFewBytes, IsForSize, IsUnfit, IsUnspared, MayAsk}
-use Rattle.point_queries.specs.FromProblemReading.{AreNumbered, AreReadable, HasNoEarlier, AreUnread}
-use Rattle.session_meaning.specs.Meaning.{meaning, Meaning, Determines, IsAllowed, MayGive}
-use Rattle.session_meaning.specs.Numbered.{numbered}
-use Rattle.formula_resolving.specs.declared.error.StaticError.{StaticError}
-use Rattle.formula_resolving.specs.declared.error.StaticError.TheVariants as static
-use Rattle.session_meaning.specs.Uses.{IsDirectUse, Use, HasManyNodes, formula_line}
-use Rattle.session_meaning.specs.Causes.{HasNoRoom, IsTooLarge, IsCause, MayBeCause, HasNone, IsFirst, IsAccepted}
-use Rattle.session_meaning.specs.Reply.{IsLine}
-use Rattle.session_meaning.specs.Words.{before}
-use Rattle.point_queries.specs.FromSharedForms.{IsConditionFor, IsConditionByCases, IsFormOf, IsCleanedAs, IsPrenexAs, IsSimplifiedAs, FormsError, PrenexFault, FormFault}
-use Rattle.point_queries.specs.FromSharedForms.way_variants as way
-use Rattle.point_queries.specs.FromSharedForms.forms_error_variants as forms
-use Rattle.formula_tree.specs.Names.{with_name}
-use Rattle.redlog_printer.specs.Writing.{text_limit}
-use Rattle.session_meaning.specs.declared.line.Line.{Line}
-use Rattle.session_meaning.specs.declared.line.StatementError.{StatementError}
-use Rattle.session_meaning.specs.declared.line.StatementError.TheVariants as error
+use Rattle.form_commands.specs.Reading.{AreNumbered, AreReadable, HasNoEarlier, AreUnread}
+use Rattle.program_meaning.specs.Meaning.{meaning, Meaning, Determines, IsAllowed, MayGive}
+use Rattle.session_state.specs.Numbered.{numbered}
+use Rattle.language_meaning.specs.declared.static_error.StaticError.{StaticError}
+use Rattle.language_meaning.specs.declared.static_error.StaticError.TheVariants as static
+use Rattle.program_meaning.specs.Uses.{IsDirectUse, Use, HasManyNodes, formula_line}
+use Rattle.program_meaning.specs.Causes.{HasNoRoom, IsTooLarge, IsCause, MayBeCause, HasNone, IsFirst, IsAccepted}
+use Rattle.program_meaning.specs.Reply.{IsLine}
+use Rattle.program_meaning.specs.Words.{before}
+use Rattle.form_commands.specs.Conditions.{IsConditionFor, IsConditionByCases}
+use Rattle.form_commands.specs.Forms.{IsFormOf, IsCleanedAs, IsPrenexAs, IsSimplifiedAs}
+use Rattle.form_commands.specs.declared.error.FormsError.{FormsError}
+use Rattle.form_commands.specs.Faults.{PrenexFault, FormFault}
+use Rattle.form_commands.specs.declared.way.Way.TheVariants as way
+use Rattle.form_commands.specs.declared.error.FormsError.TheVariants as forms
+use Rattle.logic_meaning.specs.Names.{with_name}
+use Rattle.logic_meaning.specs.Writing.{text_limit}
+use Rattle.program_meaning.specs.declared.line.Line.{Line}
+use Rattle.program_meaning.specs.declared.line.StatementError.{StatementError}
+use Rattle.program_meaning.specs.declared.line.StatementError.TheVariants as error
 use Rattle.session_commands.specs.declared.formulas.FormCommand.{FormCommand}
 use Rattle.session_commands.specs.declared.formulas.FormCommand.TheVariants as wanted
-use Rattle.session_meaning.specs.State.{State, with_names, known}
-use Rattle.session_meaning.specs.Assumptions.{assumed, Hold}
-use Rattle.session_meaning.specs.FormulaAnswers.{negation_normal_of, IsPrenexAnswer, IsSimplification, IsCondition, IsCleanAnswer}
-use Rattle.point_queries.specs.FromSessionState.{IsSessionFormula, IsSound}
-use Rattle.point_queries.specs.FromSharedForms.clause_form_variants as clause_form
-use Rattle.formula_meaning.specs.declared.junction.Junction.{Junction}
-use Rattle.formula_meaning.specs.declared.junction.Junction.TheVariants.{Conjunction, Disjunction}
-use Rattle.session_meaning.specs.FromCleanForms.{plain_form}
-use Rattle.point_queries.proofs.FromProblemReading.{HasNoPoint, then_clear, unread_refuses, quantified_refuses, ready_below, readable_below, below_bindings, assumed_hold, truth_as_written}
-use Rattle.session_meaning.proofs.FromPrenexForms.{finished}
+use Rattle.program_meaning.specs.State.{State, with_names, known}
+use Rattle.program_meaning.specs.Assumptions.{assumed, Hold}
+use Rattle.program_meaning.specs.FormulaAnswers.{negation_normal_of, IsPrenexAnswer, IsSimplification, IsCondition, IsCleanAnswer}
+use Rattle.session_state.specs.Keeping.{IsSessionFormula, IsSound}
+use Rattle.form_commands.specs.declared.forms.ClauseForm.TheVariants as clause_form
+use Rattle.logic_meaning.specs.declared.junction.Junction.{Junction}
+use Rattle.logic_meaning.specs.declared.junction.Junction.TheVariants.{Conjunction, Disjunction}
+use Rattle.logic_meaning.specs.PlainForms.{plain_form}
+use Rattle.form_commands.proofs.CauseLemmas.{HasNoPoint, then_clear, unread_refuses, quantified_refuses, ready_below, readable_below, below_bindings}
+use Rattle.form_commands.proofs.AssumptionLemmas.{assumed_hold}
+use Rattle.form_commands.proofs.ReadTruth.{truth_as_written}
+use Rattle.session_state.proofs.FromPrenexForms.{finished}
 use Rattle.session_commands.proofs.NewNameLemmas.{answer_names_once}
-use Rattle.point_queries.proofs.FromSharedForms.{prenex_form_members, prenex_formula, eliminated_for, condition_formula, answer_formula, orderly_members, orderly_every, simplified_formula, cleaned_formula}
-use Rattle.point_queries.proofs.FromSessionState.{not_empty, negated_formula}
+use Rattle.form_commands.proofs.PrenexLemmas.{prenex_form_members, prenex_formula}
+use Rattle.form_commands.proofs.ConditionsFor.{eliminated_for, condition_formula}
+use Rattle.form_commands.proofs.EliminatedLemmas.{answer_formula, orderly_members, orderly_every, simplified_formula, cleaned_formula}
+use Rattle.session_state.proofs.VariableLemmas.{not_empty}
+use Rattle.session_state.proofs.SoundLemmas.{negated_formula}
 
 append_nil : (xs : List (List ℕ)) → xs ++ [] ≡ xs
 append_nil [] = refl

@@ -1,57 +1,67 @@
 -- The steps of a command that gives a formula, on the state.
 use Rattle.std.specs.Prelude.{Result, Ok, Err, OnOk, OnErr, IfOk, IfErr}
 use Rattle.std.proofs.Common.{◌≡◌, ◌⊎◌, ⊎_elim, inl, inr, ℕ, ◌<◌, List, ◌++◌, Bool, true, false, Option, Some, None, sym, ap, ◌∙◌, subst, refl, length}
-use Rattle.formula_meaning.specs.Formula.{also}
+use Rattle.logic_meaning.specs.Formula.{also}
 use Rattle.std.specs.List.{fold, IsDistinct}
 use Rattle.std.specs.Map.{keys_of}
-use Rattle.formula_meaning.specs.Atom.{Atom}
-use Rattle.formula_meaning.specs.Every.{Every}
-use Rattle.formula_meaning.specs.Numbers.{IsAtomInLimit}
-use Rattle.formula_meaning.specs.Some.{EachOf}
-use Rattle.formula_meaning.specs.Tree.{Tree}
-use Rattle.atom_normal.specs.declared.atoms.Context as atoms
-use Rattle.atom_normal.specs.Atoms.{context_of}
-use Rattle.point_queries.specs.FromBlockScheduler.{Limits}
-use Rattle.atom_normal.specs.NormalForm.{IsNormal}
-use Rattle.qe_syntax.specs.Trees.{FormulaTree, FormulaTrees}
-use Rattle.qe_syntax.specs.Writable.{AreWritableFormulas}
-use Rattle.qe_syntax.specs.Value.{same_name}
-use Rattle.formula_tree.specs.Bindings.{bind}
-use Rattle.formula_tree.specs.Names.{with_name}
-use Rattle.resolved_formulas.specs.Resolving.{formula_variables, all_variables, resolve}
+use Rattle.logic_meaning.specs.Atom.{Atom}
+use Rattle.logic_meaning.specs.Every.{Every}
+use Rattle.logic_meaning.specs.Numbers.{IsAtomInLimit}
+use Rattle.logic_meaning.specs.Some.{EachOf}
+use Rattle.logic_meaning.specs.Tree.{Tree}
+use Rattle.normal_atoms.specs.declared.atoms.Context as atoms
+use Rattle.normal_atoms.specs.Atoms.{context_of}
+use Rattle.form_commands.specs.FromEngineAnswers.{Limits}
+use Rattle.logic_meaning.specs.NormalForm.{IsNormal}
+use Rattle.language_meaning.specs.Trees.{FormulaTree, FormulaTrees}
+use Rattle.written_syntax.specs.Writable.{AreWritableFormulas}
+use Rattle.language_meaning.specs.Value.{same_name}
+use Rattle.logic_meaning.specs.Bindings.{bind}
+use Rattle.logic_meaning.specs.Names.{with_name}
+use Rattle.language_meaning.specs.Resolving.{formula_variables, all_variables, resolve}
 use Rattle.resolved_formulas.proofs.PlaceLaws.{after_distinct}
 use Rattle.formula_resolving.specs.Numbering.{Grows}
 use Rattle.formula_tree.specs.declared.shape.Shape.{Shape}
 use Rattle.formula_store.specs.declared.id.FormulaId.{FormulaId}
 use Rattle.formula_store.specs.Nodes.{tree, IsId}
 use Rattle.formula_store.proofs.Numbers.{numbers_are_within}
-use Rattle.formula_meaning.specs.Within.{IsTreeWithin}
-use Rattle.formula_meaning.specs.Members.{HasTwoMembers}
-use Rattle.point_queries.specs.FromSessionState.{SessionState, state_of, IsSessionFormula, IsSound, IsSessionState, KeepsState, GrowsState, IsScripted, HasIds}
-use Rattle.session_meaning.specs.declared.line.Line.{Line}
-use Rattle.session_meaning.specs.declared.line.Line.TheVariants as line
-use Rattle.session_meaning.specs.Inside.{IsInnerAnswer}
+use Rattle.formula_laws.specs.Within.{IsTreeWithin}
+use Rattle.logic_meaning.specs.Members.{HasTwoMembers}
+use Rattle.session_state.specs.declared.state.SessionState.{SessionState}
+use Rattle.session_state.specs.Keeping.{state_of, IsSessionFormula, IsSound, IsSessionState, HasIds}
+use Rattle.session_state.specs.Growth.{KeepsState, GrowsState}
+use Rattle.session_state.specs.Scripted.{IsScripted}
+use Rattle.program_meaning.specs.declared.line.Line.{Line}
+use Rattle.program_meaning.specs.declared.line.Line.TheVariants as line
+use Rattle.program_meaning.specs.Inside.{IsInnerAnswer}
 use Rattle.session_commands.specs.Inner.{IsOwn}
-use Rattle.session_meaning.specs.declared.line.StatementError.{StatementError}
-use Rattle.session_meaning.specs.declared.line.StatementError.TheVariants as error
-use Rattle.redlog_printer.specs.Text.{tree_text}
-use Rattle.redlog_printer.specs.Writing.{text_limit}
+use Rattle.program_meaning.specs.declared.line.StatementError.{StatementError}
+use Rattle.program_meaning.specs.declared.line.StatementError.TheVariants as error
+use Rattle.logic_meaning.specs.Text.{tree_text}
+use Rattle.logic_meaning.specs.Writing.{text_limit}
 use Rattle.session_commands.specs.declared.formulas.FormCommand.{FormCommand}
 use Rattle.session_commands.specs.declared.formulas.FormCommand.TheVariants as wanted
-use Rattle.session_meaning.specs.Points.{IsQuantified}
-use Rattle.formula_meaning.specs.Shape.{IsQuantifierFree}
-use Rattle.session_meaning.specs.State.{State, with_names, known}
-use Rattle.point_queries.specs.FromCommandTools.{use_of, Refuses, state_with, IsFormulaAnswer, forms_refusal}
+use Rattle.program_meaning.specs.Points.{IsQuantified}
+use Rattle.logic_meaning.specs.Shape.{IsQuantifierFree}
+use Rattle.program_meaning.specs.State.{State, with_names, known}
+use Rattle.form_commands.specs.Replies.{use_of, Refuses, state_with, IsFormulaAnswer}
+use Rattle.form_commands.specs.Refusals.{forms_refusal}
 use Rattle.session_commands.specs.Steps.{given_trees, form_of, command_of, HasUnwantedQuantifier, IsReady, IsUnready, IsWantedOf, MayBind, TargetFault, IsLineOf, GiveFault, HasFewBytes, MayAsk, AttemptRefuses, KeepsWhereEliminated, bound_after}
-use Rattle.point_queries.specs.FromProblemReading.{AreNumbered}
-use Rattle.session_meaning.specs.Meaning.{meaning}
-use Rattle.session_meaning.specs.Numbered.{numbered}
-use Rattle.session_meaning.specs.Assumptions.{assumed}
-use Rattle.point_queries.specs.FromSharedForms.{FormsError, Form, Premised, IsPremised, IsDistributed, IsFormOf, IsFormed, HasFormNames, FormFault}
-use Rattle.point_queries.proofs.FromSessionState.{bind_trees, bind_ids, bind_distinct, bound_there, state_parts, grown_state, grown_session, keeps_then, sound_with, length_grows, AllVariables, both, variables_of_all, all_put_in}
+use Rattle.form_commands.specs.Reading.{AreNumbered}
+use Rattle.program_meaning.specs.Meaning.{meaning}
+use Rattle.session_state.specs.Numbered.{numbered}
+use Rattle.program_meaning.specs.Assumptions.{assumed}
+use Rattle.form_commands.specs.declared.error.FormsError.{FormsError}
+use Rattle.form_commands.specs.declared.forms.Form.{Form}
+use Rattle.form_commands.specs.declared.forms.Premised.{Premised}
+use Rattle.form_commands.specs.Forms.{IsPremised, IsDistributed, IsFormOf, IsFormed, HasFormNames}
+use Rattle.form_commands.specs.Faults.{FormFault}
+use Rattle.session_state.proofs.BindingLemmas.{bind_trees, bind_ids, bind_distinct, bound_there}
+use Rattle.session_state.proofs.StateLemmas.{state_parts, grown_state, grown_session, keeps_then, sound_with, length_grows}
+use Rattle.session_state.proofs.VariableLemmas.{AllVariables, both, variables_of_all, all_put_in}
 use Rattle.session_commands.proofs.NewNameLemmas.{form_names, answer_names_distinct, answer_names_variables}
 use Rattle.point_queries.proofs.PointLemmas.{resolved_free}
-use Rattle.point_queries.proofs.FromProblemReading.{assumed_normal, numbers_of, readable_formula}
+use Rattle.form_commands.proofs.ReadLemmas.{assumed_normal, numbers_of, readable_formula}
 use Rattle.session_commands.proofs.GivenLemmas.{named_is, refused_unready, refused_form, refused_target, refused_line, is_accepted, may_give, is_given, given_formula}
 
 -- a state with one more formula bound is sound

@@ -1,20 +1,21 @@
 -- What commands inside others ask for, and how they are answered.
 use Rattle.std.proofs.Common.{◌≡◌, ℕ, ◌≤◌, List, length, refl, sym, ap, ◌∙◌, subst, arith}
-use Rattle.formula_meaning.specs.Formula.{none, also}
-use Rattle.qe_syntax.specs.declared.tree.Formula.{Formula}
-use Rattle.qe_syntax.specs.declared.tree.Formulas.{Formulas}
-use Rattle.qe_syntax.specs.Holes.{Nnf, Pnf, Dnf, Cnf, Simpl, Qe, InnerTree, Nest, Nests, nest, together, command_count, nested, nested_under}
-use Rattle.qe_syntax.specs.CodeTrees.{whole_formula, whole_formulas, formula_trees, named_tree, inner_of}
-use Rattle.qe_syntax.specs.Trees.{FormulaTree, FormulaTrees}
-use Rattle.qe_syntax.specs.Writable.{AreWritableFormulas}
-use Rattle.statement_syntax.specs.LastTokens.{inside_count}
-use Rattle.statement_syntax.specs.Statements.{Simpl as Simplify, Qe as Eliminate}
-use Rattle.statement_syntax.specs.Writable.{IsFormulaBeside}
-use Rattle.session_meaning.specs.Meaning.{meaning}
-use Rattle.point_queries.specs.FromProblemReading.{AreNumbered}
-use Rattle.point_queries.specs.FromSessionState.{SessionState, HasAnswers, answered_tree}
-use Rattle.point_queries.proofs.FromSessionState.{scripted_beside}
-use Rattle.point_queries.specs.FromSharedForms.clause_form_variants as clause_form
+use Rattle.logic_meaning.specs.Formula.{none, also}
+use Rattle.written_syntax.specs.declared.tree.Formula.{Formula}
+use Rattle.written_syntax.specs.declared.tree.Formulas.{Formulas}
+use Rattle.language_meaning.specs.Holes.{Nnf, Pnf, Dnf, Cnf, Simpl, Qe, InnerTree, Nest, Nests, nest, together, command_count, nested, nested_under}
+use Rattle.written_syntax.specs.CodeTrees.{whole_formula, whole_formulas, formula_trees, named_tree, inner_of}
+use Rattle.language_meaning.specs.Trees.{FormulaTree, FormulaTrees}
+use Rattle.written_syntax.specs.Writable.{AreWritableFormulas}
+use Rattle.written_syntax.specs.LastTokens.{inside_count}
+use Rattle.language_meaning.specs.Statements.{Simpl as Simplify, Qe as Eliminate}
+use Rattle.written_syntax.specs.StatementSyntaxWritable.{IsFormulaBeside}
+use Rattle.program_meaning.specs.Meaning.{meaning}
+use Rattle.form_commands.specs.Reading.{AreNumbered}
+use Rattle.session_state.specs.declared.state.SessionState.{SessionState}
+use Rattle.session_state.specs.Scripted.{HasAnswers, answered_tree}
+use Rattle.session_state.proofs.BesideLemmas.{scripted_beside}
+use Rattle.form_commands.specs.declared.forms.ClauseForm.TheVariants as clause_form
 use Rattle.session_commands.specs.declared.formulas.FormCommand.{FormCommand}
 use Rattle.session_commands.specs.declared.formulas.FormCommand.TheVariants as wanted
 use Rattle.session_commands.specs.Steps.{given_trees, command_of}

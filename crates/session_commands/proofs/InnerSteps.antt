@@ -5,33 +5,36 @@ use Rattle.std.proofs.lemmas.List.{length-map, map-append}
 use Rattle.std.specs.List.{AllByRecursion}
 use Rattle.std.specs.declared.alloc.Global.{Global}
 use Rattle.std.specs.declared.vec.Vec.{Vec}
-use Rattle.formula_meaning.specs.Every.{Every}
-use Rattle.formula_meaning.specs.Numbers.{IsAtomInLimit}
-use Rattle.formula_meaning.specs.Some.{EachOf}
-use Rattle.formula_meaning.specs.Formula.{none, also}
+use Rattle.logic_meaning.specs.Every.{Every}
+use Rattle.logic_meaning.specs.Numbers.{IsAtomInLimit}
+use Rattle.logic_meaning.specs.Some.{EachOf}
+use Rattle.logic_meaning.specs.Formula.{none, also}
 use Rattle.formula_resolving.specs.Numbering.{Grows}
 use Rattle.formula_resolving.proofs.PartLaws.{trees_stay}
 use Rattle.formula_store.specs.declared.id.FormulaId.{FormulaId}
 use Rattle.formula_store.specs.Nodes.{tree, IsId}
-use Rattle.qe_syntax.specs.declared.tree.Formula.{Formula}
-use Rattle.qe_syntax.specs.Holes.{Nest, nest}
-use Rattle.qe_syntax.specs.Trees.{FormulaTree, FormulaTrees}
-use Rattle.qe_syntax.specs.Valued.{IsIn}
-use Rattle.resolved_formulas.specs.Resolving.{formula_variables}
+use Rattle.written_syntax.specs.declared.tree.Formula.{Formula}
+use Rattle.language_meaning.specs.Holes.{Nest, nest}
+use Rattle.language_meaning.specs.Trees.{FormulaTree, FormulaTrees}
+use Rattle.written_syntax.specs.Valued.{IsIn}
+use Rattle.language_meaning.specs.Resolving.{formula_variables}
 use Rattle.resolved_formulas.proofs.PlaceLaws.{after_has, in_either}
-use Rattle.statement_syntax.specs.LastTokens.{inside_count}
-use Rattle.statement_syntax.specs.Texts.{formulas_in}
-use Rattle.session_meaning.specs.declared.line.StatementError.{StatementError}
-use Rattle.session_meaning.specs.declared.line.StatementError.TheVariants as error
-use Rattle.session_meaning.specs.State.{State, with_answers}
-use Rattle.session_meaning.specs.Causes.{IsFirst}
-use Rattle.session_meaning.specs.Inside.{inner_use, IsInnerAnswer}
-use Rattle.point_queries.specs.FromCommandTools.{use_of, Refuses}
-use Rattle.point_queries.specs.FromProblemReading.{AreNumbered}
-use Rattle.point_queries.specs.FromSharedForms.way_variants as way
-use Rattle.point_queries.specs.FromSessionState.{SessionState, state_of, IsSessionFormula, IsSound, IsSessionState, GrowsState, IsScripted, answered_tree}
-use Rattle.point_queries.proofs.FromSessionState.{grown_state, length_grows, sound_with}
-use Rattle.point_queries.proofs.FromProblemReading.{numbered_in}
+use Rattle.written_syntax.specs.LastTokens.{inside_count}
+use Rattle.language_meaning.specs.Texts.{formulas_in}
+use Rattle.program_meaning.specs.declared.line.StatementError.{StatementError}
+use Rattle.program_meaning.specs.declared.line.StatementError.TheVariants as error
+use Rattle.program_meaning.specs.State.{State, with_answers}
+use Rattle.program_meaning.specs.Causes.{IsFirst}
+use Rattle.program_meaning.specs.Inside.{inner_use, IsInnerAnswer}
+use Rattle.form_commands.specs.Replies.{use_of, Refuses}
+use Rattle.form_commands.specs.Reading.{AreNumbered}
+use Rattle.form_commands.specs.declared.way.Way.TheVariants as way
+use Rattle.session_state.specs.declared.state.SessionState.{SessionState}
+use Rattle.session_state.specs.Keeping.{state_of, IsSessionFormula, IsSound, IsSessionState}
+use Rattle.session_state.specs.Growth.{GrowsState}
+use Rattle.session_state.specs.Scripted.{IsScripted, answered_tree}
+use Rattle.session_state.proofs.StateLemmas.{grown_state, length_grows, sound_with}
+use Rattle.form_commands.proofs.ReadLemmas.{numbered_in}
 use Rattle.session_commands.specs.declared.formulas.FormCommand.{FormCommand}
 use Rattle.session_commands.specs.declared.formulas.FormCommand.TheVariants as wanted
 use Rattle.session_commands.specs.Steps.{command_of, IsWantedOf, IsFirstAttempt, MayAsk}

@@ -4,42 +4,48 @@ use Rattle.std.proofs.lemmas.List.{length-map}
 use Rattle.std.specs.List.{AllByRecursion, fold, IsDistinct}
 use Rattle.std.specs.declared.alloc.Global.{Global}
 use Rattle.std.specs.declared.vec.Vec.{Vec}
-use Rattle.formula_meaning.specs.Formula.{none}
-use Rattle.formula_tree.specs.Names.{with_name}
+use Rattle.logic_meaning.specs.Formula.{none}
+use Rattle.logic_meaning.specs.Names.{with_name}
 use Rattle.formula_resolving.specs.Numbering.{Grows}
 use Rattle.formula_resolving.proofs.Numbered.{grows_then}
 use Rattle.formula_store.specs.declared.id.FormulaId.{FormulaId}
 use Rattle.formula_store.specs.Nodes.{tree}
-use Rattle.qe_syntax.specs.declared.tree.Formula.{Formula}
-use Rattle.qe_syntax.specs.Holes.{Nest, Nests, nest, alone, command_count}
-use Rattle.qe_syntax.specs.CodeTrees.{inner_of}
-use Rattle.qe_syntax.specs.Trees.{FormulaTrees}
-use Rattle.qe_syntax.specs.Value.{same_name}
-use Rattle.qe_syntax.specs.Valued.{IsIn}
-use Rattle.statement_syntax.specs.declared.statement.Command as code
-use Rattle.statement_syntax.specs.declared.statement.Command.TheVariants as command
-use Rattle.statement_syntax.specs.declared.statement.Action as acts
-use Rattle.statement_syntax.specs.declared.statement.Action.TheVariants as action
-use Rattle.statement_syntax.specs.CodeTrees.{whole_action}
-use Rattle.statement_syntax.specs.LastTokens.{all_in_order}
-use Rattle.statement_syntax.specs.Texts.{formulas_in, written_out}
-use Rattle.statement_syntax.specs.Writable.{AreWritableNests}
-use Rattle.resolved_formulas.specs.Resolving.{all_variables}
+use Rattle.written_syntax.specs.declared.tree.Formula.{Formula}
+use Rattle.language_meaning.specs.Holes.{Nest, Nests, nest, alone, command_count}
+use Rattle.written_syntax.specs.CodeTrees.{inner_of}
+use Rattle.language_meaning.specs.Trees.{FormulaTrees}
+use Rattle.language_meaning.specs.Value.{same_name}
+use Rattle.written_syntax.specs.Valued.{IsIn}
+use Rattle.written_syntax.specs.declared.statement.Command as code
+use Rattle.written_syntax.specs.declared.statement.Command.TheVariants as command
+use Rattle.written_syntax.specs.declared.statement.Action as acts
+use Rattle.written_syntax.specs.declared.statement.Action.TheVariants as action
+use Rattle.written_syntax.specs.StatementSyntaxCodeTrees.{whole_action}
+use Rattle.written_syntax.specs.LastTokens.{all_in_order}
+use Rattle.language_meaning.specs.Texts.{formulas_in, written_out}
+use Rattle.written_syntax.specs.StatementSyntaxWritable.{AreWritableNests}
+use Rattle.language_meaning.specs.Resolving.{all_variables}
 use Rattle.resolved_formulas.proofs.PlaceLaws.{after_distinct, after_has, in_either}
-use Rattle.inner_commands.specs.declared.order.Step.{Step}
-use Rattle.inner_commands.specs.Order.{nest_of, AreInOrder}
-use Rattle.inner_commands.specs.Text.{text_variables as formula_text}
-use Rattle.inner_commands.proofs.Inside.{IsWritableStep, all_can_be_written, all_in_turn, nest_variables, inside_stands}
-use Rattle.inner_commands.proofs.Texts.{variables_stand}
-use Rattle.session_meaning.specs.declared.line.StatementError.{StatementError}
-use Rattle.session_meaning.specs.declared.line.StatementError.TheVariants as error
-use Rattle.session_meaning.specs.State.{State, with_names, with_answers}
-use Rattle.session_meaning.specs.Inside.{GivesAll, SomeStops}
-use Rattle.session_meaning.specs.Meaning.{meaning, text_variables}
-use Rattle.session_meaning.specs.Reply.{statement_variables, with_variables}
-use Rattle.point_queries.specs.FromSessionState.{SessionState, state_of, IsSessionState, GrowsState, HasAnswers, answered_tree}
-use Rattle.point_queries.proofs.FromSessionState.{AllVariables, all_put_in, grown_state, grown_session, keeps_itself, scripted_beside, kept_names}
-use Rattle.point_queries.proofs.FromProblemReading.{numbered_in}
+use Rattle.formula_resolving.specs.declared.order.Step.{Step}
+use Rattle.formula_resolving.specs.Order.{nest_of, AreInOrder}
+use Rattle.formula_resolving.specs.Text.{text_variables as formula_text}
+use Rattle.formula_resolving.proofs.Inside.{IsWritableStep, all_can_be_written, all_in_turn, nest_variables, inside_stands}
+use Rattle.formula_resolving.proofs.Texts.{variables_stand}
+use Rattle.program_meaning.specs.declared.line.StatementError.{StatementError}
+use Rattle.program_meaning.specs.declared.line.StatementError.TheVariants as error
+use Rattle.program_meaning.specs.State.{State, with_names, with_answers}
+use Rattle.program_meaning.specs.Inside.{GivesAll, SomeStops}
+use Rattle.program_meaning.specs.Meaning.{meaning, text_variables}
+use Rattle.program_meaning.specs.Reply.{statement_variables, with_variables}
+use Rattle.session_state.specs.declared.state.SessionState.{SessionState}
+use Rattle.session_state.specs.Keeping.{state_of, IsSessionState}
+use Rattle.session_state.specs.Growth.{GrowsState}
+use Rattle.session_state.specs.Scripted.{HasAnswers, answered_tree}
+use Rattle.session_state.proofs.VariableLemmas.{AllVariables, all_put_in}
+use Rattle.session_state.proofs.StateLemmas.{grown_state, grown_session, keeps_itself}
+use Rattle.session_state.proofs.BesideLemmas.{scripted_beside}
+use Rattle.session_state.proofs.NameLemmas.{kept_names}
+use Rattle.form_commands.proofs.ReadLemmas.{numbered_in}
 use Rattle.session_commands.specs.Asking.{asked_command, asked_action, formula_asked, formula_in, command_in, CanAskOf, CanActOf, CanAct, IsWritten}
 use Rattle.session_commands.specs.Inner.{IsOwn, IsNumberedNest, AreAnswered, AreStopped, IsWrittenFormula}
 use Rattle.session_commands.specs.Running.{Runs, Halts}

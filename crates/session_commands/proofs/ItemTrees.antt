@@ -1,11 +1,11 @@
 -- The trees of a list of formulas are those of its members.
 use Rattle.std.proofs.Common.{◌≡◌, List, [], ◌∷◌, map, refl, ap, ◌∙◌}
-use Rattle.formula_meaning.specs.Formula.{also}
-use Rattle.qe_syntax.specs.declared.tree.Formula.{Formula}
-use Rattle.qe_syntax.specs.declared.tree.Formulas.{Formulas}
-use Rattle.qe_syntax.specs.Holes.{Holed, all_of}
-use Rattle.qe_syntax.specs.Trees.{FormulaTrees, formulas_of}
-use Rattle.qe_syntax.specs.CodeTrees.{whole_formula, whole_formulas, formula_tree, formula_trees}
+use Rattle.logic_meaning.specs.Formula.{also}
+use Rattle.written_syntax.specs.declared.tree.Formula.{Formula}
+use Rattle.written_syntax.specs.declared.tree.Formulas.{Formulas}
+use Rattle.language_meaning.specs.Holes.{Holed, all_of}
+use Rattle.language_meaning.specs.Trees.{FormulaTrees, formulas_of}
+use Rattle.written_syntax.specs.CodeTrees.{whole_formula, whole_formulas, formula_tree, formula_trees}
 
 each_tree : (fs : List Formula) → (all_of (map whole_formula fs)).tree ≡ formulas_of (map formula_tree fs)
 unfolding formula_tree

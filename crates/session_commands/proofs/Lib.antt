@@ -17,6 +17,3 @@ pub mod InsideLemmas
 pub mod ThroughLemmas
 pub mod Accepted
 pub mod NamesAfter
-pub mod FromProblemReading
-pub mod FromSessionState
-pub mod FromSharedForms

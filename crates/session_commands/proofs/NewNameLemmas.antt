@@ -2,23 +2,23 @@
 use Rattle.std.proofs.Common.{◌≡◌, ℕ, List, [], ◌∷◌, ◌++◌, sym, ◌∙◌, subst}
 use Rattle.std.proofs.lemmas.List.{append_cancel_right}
 use Rattle.std.specs.List.{IsDistinct, AllByRecursion}
-use Rattle.formula_meaning.specs.Tree.{Tree}
-use Rattle.statement_syntax.specs.Statements.{CommandTree, Echo, Nnf, Pnf, Dnf, Cnf, Simpl, Qe, Qea, Holds, Sample, Grid, Certify, Check, Least}
-use Rattle.qe_syntax.specs.Trees.{FormulaTree}
-use Rattle.qe_syntax.specs.Names.{IsVariable}
-use Rattle.qe_syntax.specs.Value.{same_name}
-use Rattle.resolved_formulas.specs.Resolving.{resolve}
+use Rattle.logic_meaning.specs.Tree.{Tree}
+use Rattle.language_meaning.specs.Statements.{CommandTree, Echo, Nnf, Pnf, Dnf, Cnf, Simpl, Qe, Qea, Holds, Sample, Grid, Certify, Check, Least}
+use Rattle.language_meaning.specs.Trees.{FormulaTree}
+use Rattle.language_meaning.specs.Names.{IsVariable}
+use Rattle.language_meaning.specs.Value.{same_name}
+use Rattle.language_meaning.specs.Resolving.{resolve}
 use Rattle.session_commands.specs.declared.formulas.FormCommand.{FormCommand}
 use Rattle.session_commands.specs.declared.formulas.FormCommand.TheVariants as wanted
-use Rattle.point_queries.specs.FromSharedForms.clause_form_variants as clause_form
-use Rattle.session_meaning.specs.State.{State, known}
-use Rattle.session_meaning.specs.FormulaAnswers.{HasNewNames}
-use Rattle.session_meaning.specs.Targets.{target_name}
+use Rattle.form_commands.specs.declared.forms.ClauseForm.TheVariants as clause_form
+use Rattle.program_meaning.specs.State.{State, known}
+use Rattle.program_meaning.specs.FormulaAnswers.{HasNewNames}
+use Rattle.program_meaning.specs.Targets.{target_name}
 use Rattle.session_commands.specs.Steps.{form_of, command_of}
-use Rattle.session_meaning.specs.Meaning.{meaning}
-use Rattle.point_queries.specs.FromSharedForms.{HasFormNames}
-use Rattle.point_queries.proofs.FromSharedForms.{adds_once, adds_distinct}
-use Rattle.point_queries.proofs.FromSessionState.{AllVariables}
+use Rattle.program_meaning.specs.Meaning.{meaning}
+use Rattle.form_commands.specs.Forms.{HasFormNames}
+use Rattle.form_commands.proofs.NewNames.{adds_once, adds_distinct}
+use Rattle.session_state.proofs.VariableLemmas.{AllVariables}
 
 -- ---- the names after an answer
 

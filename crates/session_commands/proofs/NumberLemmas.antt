@@ -2,23 +2,23 @@
 use Rattle.std.proofs.Common.{◌≡◌, ◌⊎◌, inl, inr, ℕ, List, [], ◌++◌, Some, append-nil, refl, sym, ap, ◌∙◌, subst}
 use Rattle.std.proofs.lemmas.List.Sums.{fold-append}
 use Rattle.std.specs.List.{fold}
-use Rattle.formula_meaning.specs.Formula.{none, also}
-use Rattle.formula_tree.specs.Names.{with_name}
-use Rattle.qe_syntax.specs.declared.tree.Formula.{Formula}
-use Rattle.qe_syntax.specs.declared.tree.Formulas.{Formulas}
-use Rattle.qe_syntax.specs.declared.entries.PointEntry.{PointEntry}
-use Rattle.qe_syntax.specs.CodeTrees.{inner_of, formula_trees}
-use Rattle.qe_syntax.specs.Writable.{AreWritableFormulas}
-use Rattle.statement_syntax.specs.declared.statement.Command as code
-use Rattle.statement_syntax.specs.declared.statement.Command.TheVariants as command
-use Rattle.statement_syntax.specs.Texts.{written_out}
-use Rattle.resolved_formulas.specs.Resolving.{all_variables}
-use Rattle.inner_commands.specs.Text.{text_variables as formula_text}
-use Rattle.inner_commands.proofs.Texts.{text_of_given}
-use Rattle.session_meaning.specs.Grids.{lows}
-use Rattle.session_meaning.specs.Meaning.{Meaning, meaning, text_variables}
+use Rattle.logic_meaning.specs.Formula.{none, also}
+use Rattle.logic_meaning.specs.Names.{with_name}
+use Rattle.written_syntax.specs.declared.tree.Formula.{Formula}
+use Rattle.written_syntax.specs.declared.tree.Formulas.{Formulas}
+use Rattle.language_meaning.specs.declared.entries.PointEntry.{PointEntry}
+use Rattle.written_syntax.specs.CodeTrees.{inner_of, formula_trees}
+use Rattle.written_syntax.specs.Writable.{AreWritableFormulas}
+use Rattle.written_syntax.specs.declared.statement.Command as code
+use Rattle.written_syntax.specs.declared.statement.Command.TheVariants as command
+use Rattle.language_meaning.specs.Texts.{written_out}
+use Rattle.language_meaning.specs.Resolving.{all_variables}
+use Rattle.formula_resolving.specs.Text.{text_variables as formula_text}
+use Rattle.formula_resolving.proofs.Texts.{text_of_given}
+use Rattle.program_meaning.specs.Grids.{lows}
+use Rattle.program_meaning.specs.Meaning.{Meaning, meaning, text_variables}
 use Rattle.point_queries.specs.Asked.{entry_names}
-use Rattle.point_queries.specs.FromSessionState.{answered_tree}
+use Rattle.session_state.specs.Scripted.{answered_tree}
 use Rattle.session_commands.specs.Asking.{asked_command, formula_asked, CanAskOf}
 use Rattle.session_commands.specs.Inner.{IsWrittenFormula}
 

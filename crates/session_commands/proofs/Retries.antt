@@ -1,19 +1,21 @@
 -- The reference elimination after a condition by cases that is too large.
 use Rattle.std.proofs.Common.{◌≡◌, ⊎_elim, ℕ, List, Bool, Option, Some, None, refl, sym, subst}
 use Rattle.std.specs.Prelude.{MatchOption, Result, IfOk, IfErr, OnErr}
-use Rattle.resolved_formulas.specs.Resolving.{BoundTrees}
-use Rattle.qe_syntax.specs.Trees.{FormulaTree}
-use Rattle.session_meaning.specs.Causes.{HasNoRoom}
-use Rattle.session_meaning.specs.declared.line.Line.{Line}
-use Rattle.session_meaning.specs.declared.line.StatementError.{StatementError}
-use Rattle.session_meaning.specs.State.{State}
-use Rattle.session_meaning.specs.Uses.{Use}
-use Rattle.point_queries.specs.FromSharedForms.way_variants as way
-use Rattle.point_queries.specs.FromSessionState.{SessionState, KeepsState, GrowsState, state_of, IsSessionState}
-use Rattle.point_queries.proofs.FromSessionState.{same_state, same_session, keeps_then_grows}
+use Rattle.language_meaning.specs.Resolving.{BoundTrees}
+use Rattle.language_meaning.specs.Trees.{FormulaTree}
+use Rattle.program_meaning.specs.Causes.{HasNoRoom}
+use Rattle.program_meaning.specs.declared.line.Line.{Line}
+use Rattle.program_meaning.specs.declared.line.StatementError.{StatementError}
+use Rattle.program_meaning.specs.State.{State}
+use Rattle.program_meaning.specs.Uses.{Use}
+use Rattle.form_commands.specs.declared.way.Way.TheVariants as way
+use Rattle.session_state.specs.declared.state.SessionState.{SessionState}
+use Rattle.session_state.specs.Growth.{KeepsState, GrowsState}
+use Rattle.session_state.specs.Keeping.{state_of, IsSessionState}
+use Rattle.session_state.proofs.StateLemmas.{same_state, same_session, keeps_then_grows}
 use Rattle.session_commands.specs.declared.formulas.FormCommand.{FormCommand}
 use Rattle.session_commands.specs.declared.formulas.FormCommand.TheVariants as wanted
-use Rattle.point_queries.specs.FromCommandTools.{use_of, Refuses, IsFormulaAnswer}
+use Rattle.form_commands.specs.Replies.{use_of, Refuses, IsFormulaAnswer}
 use Rattle.session_commands.specs.Steps.{command_of, plain_of, IsFirstAttempt, IsByCases, IsForSize, IsUnfit, IsUnspared, MayAsk, AttemptRefuses, KeepsWhereEliminated}
 use Rattle.session_commands.proofs.GivenSteps.{if_err, on_err}
 

@@ -1,12 +1,12 @@
 -- Commands that are answered in the order of their last tokens are answered from the inside out.
 use Rattle.std.proofs.Common.{◌≡◌, ◌⊎◌, inl, inr, ℕ, ◌+◌, List, [], ◌∷◌, ◌++◌, length, sym, ap, ap₂, ◌∙◌, subst, refl, append_assoc, append-nil, length-append, arith}
-use Rattle.formula_meaning.specs.Tree.{Tree}
-use Rattle.qe_syntax.specs.Holes.{InnerTree, Nest, Nests, nest, alone, beside, command_count}
-use Rattle.statement_syntax.specs.LastTokens.{in_order, all_in_order}
-use Rattle.session_meaning.specs.declared.line.StatementError.{StatementError}
-use Rattle.session_meaning.specs.State.{State, with_names, with_answers}
-use Rattle.session_meaning.specs.Causes.{IsFirst}
-use Rattle.session_meaning.specs.Inside.{inner_use, inner_meaning, IsInnerAnswer, Gives, GivesAll, Stops, SomeStops}
+use Rattle.logic_meaning.specs.Tree.{Tree}
+use Rattle.language_meaning.specs.Holes.{InnerTree, Nest, Nests, nest, alone, beside, command_count}
+use Rattle.written_syntax.specs.LastTokens.{in_order, all_in_order}
+use Rattle.program_meaning.specs.declared.line.StatementError.{StatementError}
+use Rattle.program_meaning.specs.State.{State, with_names, with_answers}
+use Rattle.program_meaning.specs.Causes.{IsFirst}
+use Rattle.program_meaning.specs.Inside.{inner_use, inner_meaning, IsInnerAnswer, Gives, GivesAll, Stops, SomeStops}
 use Rattle.session_commands.specs.Running.{IsStep, IsHalted, Runs, Halts}
 
 -- ---- one more step at the end

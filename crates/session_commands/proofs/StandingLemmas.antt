@@ -2,37 +2,44 @@
 use Rattle.std.proofs.Common.{◌≡◌, inl, inr, ⊎_elim, ℕ, List, [], ◌∷◌, ◌++◌, Bool, true, false, None, sym, ap, ◌∙◌, subst, refl, length, take, map, append_assoc, append-nil}
 use Rattle.std.specs.Prelude.{Result, Ok, Err, IfOk, IfErr, OnOk, OnErr, if◌then◌else◌}
 use Rattle.std.specs.List.{IsDistinct, fold}
-use Rattle.formula_meaning.specs.Formula.{Yes, No, One, Not, And, Or, Impl, Repl, Equiv, Ex, All}
-use Rattle.formula_meaning.specs.Some.{EachOf}
-use Rattle.formula_meaning.specs.Tree.{Tree}
-use Rattle.formula_meaning.specs.Within.{IsTreeWithin}
-use Rattle.formula_tree.specs.Names.{with_name}
-use Rattle.resolved_formulas.specs.Resolving.{all_variables}
+use Rattle.logic_meaning.specs.Formula.{Yes, No, One, Not, And, Or, Impl, Repl, Equiv, Ex, All}
+use Rattle.logic_meaning.specs.Some.{EachOf}
+use Rattle.logic_meaning.specs.Tree.{Tree}
+use Rattle.formula_laws.specs.Within.{IsTreeWithin}
+use Rattle.logic_meaning.specs.Names.{with_name}
+use Rattle.language_meaning.specs.Resolving.{all_variables}
 use Rattle.formula_resolving.specs.Numbering.{Grows}
 use Rattle.formula_store.specs.declared.id.FormulaId.{FormulaId}
 use Rattle.formula_store.specs.Nodes.{tree}
-use Rattle.qe_syntax.specs.Trees.{FormulaTrees}
-use Rattle.qe_syntax.specs.Writable.{AreWritableFormulas}
-use Rattle.session_meaning.specs.declared.line.Line.{Line}
-use Rattle.session_meaning.specs.declared.line.StatementError.{StatementError}
-use Rattle.session_meaning.specs.declared.line.StatementError.TheVariants as error
-use Rattle.session_meaning.specs.State.{State, with_standing}
-use Rattle.session_meaning.specs.Assumptions.{resolved_all}
-use Rattle.session_meaning.specs.Standing.{is_among, behind, with_assumption, grown, standing_text}
-use Rattle.session_meaning.specs.Meaning.{Meaning, assumption_meaning}
-use Rattle.session_meaning.specs.Numbered.{numbered}
-use Rattle.session_meaning.specs.Causes.{IsCause, IsAccepted, HasNone}
-use Rattle.session_meaning.specs.Reply.{IsLine, AnswersAssumptions}
-use Rattle.session_meaning.specs.Uses.{Use}
-use Rattle.session_meaning.specs.Words.{before}
-use Rattle.point_queries.specs.FromSessionState.{SessionState, state_of, IsSessionFormula, IsSound, IsSessionState, KeepsState, GrowsState}
-use Rattle.point_queries.proofs.FromSessionState.{state_parts, same_state, same_session, sound_with, length_grows, keeps_itself, grows_then, AllVariables, variables_of_all, all_put_in}
+use Rattle.language_meaning.specs.Trees.{FormulaTrees}
+use Rattle.written_syntax.specs.Writable.{AreWritableFormulas}
+use Rattle.program_meaning.specs.declared.line.Line.{Line}
+use Rattle.program_meaning.specs.declared.line.StatementError.{StatementError}
+use Rattle.program_meaning.specs.declared.line.StatementError.TheVariants as error
+use Rattle.program_meaning.specs.State.{State, with_standing}
+use Rattle.program_meaning.specs.Assumptions.{resolved_all}
+use Rattle.program_meaning.specs.Standing.{is_among, behind, with_assumption, grown, standing_text}
+use Rattle.program_meaning.specs.Meaning.{Meaning, assumption_meaning}
+use Rattle.session_state.specs.Numbered.{numbered}
+use Rattle.program_meaning.specs.Causes.{IsCause, IsAccepted, HasNone}
+use Rattle.program_meaning.specs.Reply.{IsLine, AnswersAssumptions}
+use Rattle.program_meaning.specs.Uses.{Use}
+use Rattle.program_meaning.specs.Words.{before}
+use Rattle.session_state.specs.declared.state.SessionState.{SessionState}
+use Rattle.session_state.specs.Keeping.{state_of, IsSessionFormula, IsSound, IsSessionState}
+use Rattle.session_state.specs.Growth.{KeepsState, GrowsState}
+use Rattle.session_state.proofs.StateLemmas.{state_parts, same_state, same_session, sound_with, length_grows, keeps_itself}
+use Rattle.session_state.proofs.NameLemmas.{grows_then}
+use Rattle.session_state.proofs.VariableLemmas.{AllVariables, variables_of_all, all_put_in}
 use Rattle.resolved_formulas.proofs.PlaceLaws.{after_has, after_distinct}
-use Rattle.qe_syntax.specs.Value.{same_name}
-use Rattle.point_queries.specs.FromStandingAssumptions.{Assumption, standing_trees, IsFront}
-use Rattle.point_queries.specs.FromCommandTools.{use_of, IsLongText, LineFault}
-use Rattle.point_queries.specs.FromProblemReading.{AreNumbered, AreReadable, AreUnread, AreAllRead}
-use Rattle.point_queries.proofs.FromProblemReading.{HasNoPoint, then_clear, unread_refuses, readable_below, below_bindings, resolved_formulas, numbered_in}
+use Rattle.language_meaning.specs.Value.{same_name}
+use Rattle.session_state.specs.declared.assumption.Assumption.{Assumption}
+use Rattle.session_state.specs.Trees.{standing_trees, IsFront}
+use Rattle.form_commands.specs.Replies.{use_of}
+use Rattle.form_commands.specs.Refusals.{IsLongText, LineFault}
+use Rattle.form_commands.specs.Reading.{AreNumbered, AreReadable, AreUnread, AreAllRead}
+use Rattle.form_commands.proofs.CauseLemmas.{HasNoPoint, then_clear, unread_refuses, readable_below, below_bindings}
+use Rattle.form_commands.proofs.ReadLemmas.{resolved_formulas, numbered_in}
 use Rattle.session_commands.specs.Standing.{RefusesAssumptions, grown_by, IsGrown}
 
 -- ---- the list

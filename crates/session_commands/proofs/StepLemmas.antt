@@ -2,16 +2,18 @@
 use Rattle.std.proofs.Common.{◌≡◌, ℕ, ◌≤◌, ◌<◌, ◌+◌, ◌-◌, List, [], ◌∷◌, ◌++◌, length, map, take, drop, get_or, sym, ap, ◌∙◌, subst, arith}
 use Rattle.std.proofs.lemmas.List.{map-append, take-append-drop}
 use Rattle.std.specs.List.{AllByRecursion}
-use Rattle.formula_meaning.specs.Tree.{Tree}
-use Rattle.qe_syntax.specs.Holes.{Nest}
-use Rattle.qe_syntax.proofs.EntryLists.{more_entries, rest_at}
-use Rattle.statement_syntax.specs.LastTokens.{inside_count}
-use Rattle.inner_commands.specs.declared.order.Step.{Step}
-use Rattle.inner_commands.specs.Order.{nest_of, IsCounted, AreInOrder}
-use Rattle.session_meaning.specs.declared.line.StatementError.{StatementError}
-use Rattle.session_meaning.specs.State.{State, with_names}
-use Rattle.point_queries.specs.FromSessionState.{SessionState, state_of, HasIds, GrowsState}
-use Rattle.point_queries.proofs.FromSessionState.{grown_state}
+use Rattle.logic_meaning.specs.Tree.{Tree}
+use Rattle.language_meaning.specs.Holes.{Nest}
+use Rattle.written_syntax.proofs.EntryLists.{more_entries, rest_at}
+use Rattle.written_syntax.specs.LastTokens.{inside_count}
+use Rattle.formula_resolving.specs.declared.order.Step.{Step}
+use Rattle.formula_resolving.specs.Order.{nest_of, IsCounted, AreInOrder}
+use Rattle.program_meaning.specs.declared.line.StatementError.{StatementError}
+use Rattle.program_meaning.specs.State.{State, with_names}
+use Rattle.session_state.specs.declared.state.SessionState.{SessionState}
+use Rattle.session_state.specs.Keeping.{state_of, HasIds}
+use Rattle.session_state.specs.Growth.{GrowsState}
+use Rattle.session_state.proofs.StateLemmas.{grown_state}
 use Rattle.session_commands.specs.Running.{IsStep, IsHalted, Runs, Halts}
 use Rattle.session_commands.proofs.RunLemmas.{runs_more, halts_there}
 

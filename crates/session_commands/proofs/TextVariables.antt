@@ -2,26 +2,27 @@
 use Rattle.std.proofs.Common.{ℕ, suc, List, [], ◌∷◌, ◌++◌, map, Bool, true, false, Some, ◌≡◌, subst}
 use Rattle.std.specs.Prelude.{if◌then◌else◌}
 use Rattle.std.specs.List.{AllByRecursion}
-use Rattle.formula_meaning.specs.Formula.{Yes, No, One, Not, And, Or, Impl, Repl, Equiv, Ex, All, none, also}
-use Rattle.qe_syntax.specs.declared.tree.Formula.{Formula}
-use Rattle.qe_syntax.specs.declared.entries.PointEntry.{PointEntry}
-use Rattle.qe_syntax.specs.Trees.{Compare, Cong, Ncong, Bound, FormulaTree, FormulaTrees}
-use Rattle.qe_syntax.specs.Value.{same_name}
-use Rattle.qe_syntax.specs.Holes.{InnerTree, Nest, Nests, nest, alone, beside, inner_name}
-use Rattle.qe_syntax.specs.Holes as inside
-use Rattle.qe_syntax.specs.CodeTrees.{inner_of, formula_trees}
-use Rattle.statement_syntax.specs.declared.statement.Command as code
-use Rattle.statement_syntax.specs.declared.statement.Command.TheVariants as command
-use Rattle.statement_syntax.specs.declared.grid.GridAxis.{GridAxis}
-use Rattle.statement_syntax.specs.Texts.{text_at, all_with_texts, formulas_in, text_of, texts_of, written_out}
-use Rattle.inner_commands.specs.Text.{with_texts}
-use Rattle.statement_syntax.specs.Writable.{IsFormulaBeside, IsInnerOver, IsWritableNest, AreWritableNests, AreWritableAxes}
-use Rattle.qe_syntax.specs.Writable.{AreWritableFormulas, AreWritableEntries}
-use Rattle.resolved_formulas.specs.Resolving.{formula_variables, all_variables}
-use Rattle.session_meaning.specs.Meaning.{Meaning, meaning, text_variables}
-use Rattle.session_meaning.specs.Grids.{lows}
-use Rattle.point_queries.specs.FromSessionState.{answered_tree}
-use Rattle.point_queries.proofs.FromSessionState.{AllVariables, both, scripted_beside, variables_of_all}
+use Rattle.logic_meaning.specs.Formula.{Yes, No, One, Not, And, Or, Impl, Repl, Equiv, Ex, All, none, also}
+use Rattle.written_syntax.specs.declared.tree.Formula.{Formula}
+use Rattle.language_meaning.specs.declared.entries.PointEntry.{PointEntry}
+use Rattle.language_meaning.specs.Trees.{Compare, Cong, Ncong, Bound, FormulaTree, FormulaTrees}
+use Rattle.language_meaning.specs.Value.{same_name}
+use Rattle.language_meaning.specs.Holes.{InnerTree, Nest, Nests, nest, alone, beside, inner_name}
+use Rattle.language_meaning.specs.Holes as inside
+use Rattle.written_syntax.specs.CodeTrees.{inner_of, formula_trees}
+use Rattle.written_syntax.specs.declared.statement.Command as code
+use Rattle.written_syntax.specs.declared.statement.Command.TheVariants as command
+use Rattle.language_meaning.specs.declared.grid.GridAxis.{GridAxis}
+use Rattle.language_meaning.specs.Texts.{text_at, all_with_texts, formulas_in, text_of, texts_of, written_out}
+use Rattle.formula_resolving.specs.Text.{with_texts}
+use Rattle.written_syntax.specs.StatementSyntaxWritable.{IsFormulaBeside, IsInnerOver, IsWritableNest, AreWritableNests, AreWritableAxes}
+use Rattle.written_syntax.specs.Writable.{AreWritableFormulas, AreWritableEntries}
+use Rattle.language_meaning.specs.Resolving.{formula_variables, all_variables}
+use Rattle.program_meaning.specs.Meaning.{Meaning, meaning, text_variables}
+use Rattle.program_meaning.specs.Grids.{lows}
+use Rattle.session_state.specs.Scripted.{answered_tree}
+use Rattle.session_state.proofs.VariableLemmas.{AllVariables, both, variables_of_all}
+use Rattle.session_state.proofs.BesideLemmas.{scripted_beside}
 use Rattle.session_commands.specs.Asking.{asked_command, formula_asked, CanAskOf}
 use Rattle.session_commands.specs.Inner.{IsWrittenFormula}
 

@@ -6,18 +6,20 @@ use Rattle.std.specs.declared.vec.Vec.{Vec}
 use Rattle.formula_resolving.proofs.Numbered.{grows_then}
 use Rattle.formula_store.specs.declared.id.FormulaId.{FormulaId}
 use Rattle.formula_store.specs.Nodes.{tree}
-use Rattle.qe_syntax.specs.Holes.{alone}
-use Rattle.statement_syntax.specs.declared.statement.Statement.{Statement}
-use Rattle.statement_syntax.specs.CodeTrees.{whole_action, statement_tree}
-use Rattle.session_meaning.specs.declared.line.Line.{Line}
-use Rattle.session_meaning.specs.declared.line.StatementError.{StatementError}
-use Rattle.session_meaning.specs.State.{State, with_answers}
-use Rattle.session_meaning.specs.Inside.{GivesAll, SomeStops}
-use Rattle.session_meaning.specs.Reply.{with_variables, IsReached, Answers, RefusesAction}
-use Rattle.point_queries.specs.FromBlockScheduler.{Limits}
-use Rattle.point_queries.specs.FromCommandTools.{IsStopped}
-use Rattle.point_queries.specs.FromSessionState.{SessionState, state_of, IsSessionState, GrowsState}
-use Rattle.point_queries.proofs.FromSessionState.{back_session, back_state}
+use Rattle.language_meaning.specs.Holes.{alone}
+use Rattle.written_syntax.specs.declared.statement.Statement.{Statement}
+use Rattle.written_syntax.specs.StatementSyntaxCodeTrees.{whole_action, statement_tree}
+use Rattle.program_meaning.specs.declared.line.Line.{Line}
+use Rattle.program_meaning.specs.declared.line.StatementError.{StatementError}
+use Rattle.program_meaning.specs.State.{State, with_answers}
+use Rattle.program_meaning.specs.Inside.{GivesAll, SomeStops}
+use Rattle.program_meaning.specs.Reply.{with_variables, IsReached, Answers, RefusesAction}
+use Rattle.form_commands.specs.FromEngineAnswers.{Limits}
+use Rattle.form_commands.specs.Replies.{IsStopped}
+use Rattle.session_state.specs.declared.state.SessionState.{SessionState}
+use Rattle.session_state.specs.Keeping.{state_of, IsSessionState}
+use Rattle.session_state.specs.Growth.{GrowsState}
+use Rattle.session_state.proofs.StateLemmas.{back_session, back_state}
 use Rattle.session_commands.specs.Asking.{asked_action, IsWritten}
 use Rattle.session_commands.specs.Seen.{state_in}
 use Rattle.session_commands.specs.Inner.{AreAnswered, AreStopped}

@@ -1,12 +1,12 @@
 -- Statements that are never refused.
 use Rattle.std.specs.Prelude.{◌≢◌, ℕ, Bool}
-use Rattle.formula_meaning.specs.Formula.{Yes}
-use Rattle.qe_syntax.specs.Holes.{alone}
-use Rattle.statement_syntax.specs.Statements.{Echo, Say, StatementTree}
-use Rattle.session_meaning.specs.declared.line.StatementError.{StatementError}
-use Rattle.session_meaning.specs.declared.line.StatementError.TheVariants as error
-use Rattle.session_meaning.specs.State.{State}
-use Rattle.session_meaning.specs.Reply.{RefusesStatement}
+use Rattle.logic_meaning.specs.Formula.{Yes}
+use Rattle.language_meaning.specs.Holes.{alone}
+use Rattle.language_meaning.specs.Statements.{Echo, Say, StatementTree}
+use Rattle.program_meaning.specs.declared.line.StatementError.{StatementError}
+use Rattle.program_meaning.specs.declared.line.StatementError.TheVariants as error
+use Rattle.program_meaning.specs.State.{State}
+use Rattle.program_meaning.specs.Reply.{RefusesStatement}
 
 -- in every state and under every limit of nodes there is no cause to refuse the statement; only memory may run out
 abbrev pub IsNeverRefused : StatementTree → Type 0

@@ -1,18 +1,19 @@
 -- What the statements of the code ask for, where the answers of the commands inside them have names, and what has to be known of them.
 use Rattle.std.specs.Prelude.{Option, Some, None}
-use Rattle.qe_syntax.specs.declared.tree.Formula.{Formula}
-use Rattle.qe_syntax.specs.CodeTrees.{term_tree, formula_trees}
-use Rattle.qe_syntax.specs.Names.{IsVariable}
-use Rattle.qe_syntax.specs.Writable.{AreWritableFormulas, AreWritableEntries, IsWritableTerm}
-use Rattle.statement_syntax.specs.declared.statement.Command as code
-use Rattle.statement_syntax.specs.declared.statement.Command.TheVariants as command
-use Rattle.statement_syntax.specs.declared.statement.Action as acts
-use Rattle.statement_syntax.specs.declared.statement.Action.TheVariants as action
-use Rattle.statement_syntax.specs.ConstraintLists.{AreConstraints, AreWeakConstraints}
-use Rattle.statement_syntax.specs.Statements.{CommandTree, Echo, Nnf, Pnf, Dnf, Cnf, Simpl, Qe, Qea, Holds, Sample, Grid, Certify, Check, Least, ActionTree, Empty, Ignored, Finish, Choose, Say, Assign, Assume, Retract}
-use Rattle.statement_syntax.specs.CodeTrees.{whole_action, action_tree}
-use Rattle.statement_syntax.specs.Writable.{AreWritableAxes, AreWritableNumbers, IsFormulaBeside, IsActionOver, AreWritableNests}
-use Rattle.point_queries.specs.FromSessionState.{SessionState, HasAnswers, answered_tree}
+use Rattle.written_syntax.specs.declared.tree.Formula.{Formula}
+use Rattle.written_syntax.specs.CodeTrees.{term_tree, formula_trees}
+use Rattle.language_meaning.specs.Names.{IsVariable}
+use Rattle.written_syntax.specs.Writable.{AreWritableFormulas, AreWritableEntries, IsWritableTerm}
+use Rattle.written_syntax.specs.declared.statement.Command as code
+use Rattle.written_syntax.specs.declared.statement.Command.TheVariants as command
+use Rattle.written_syntax.specs.declared.statement.Action as acts
+use Rattle.written_syntax.specs.declared.statement.Action.TheVariants as action
+use Rattle.written_syntax.specs.ConstraintLists.{AreConstraints, AreWeakConstraints}
+use Rattle.language_meaning.specs.Statements.{CommandTree, Echo, Nnf, Pnf, Dnf, Cnf, Simpl, Qe, Qea, Holds, Sample, Grid, Certify, Check, Least, ActionTree, Empty, Ignored, Finish, Choose, Say, Assign, Assume, Retract}
+use Rattle.written_syntax.specs.StatementSyntaxCodeTrees.{whole_action, action_tree}
+use Rattle.written_syntax.specs.StatementSyntaxWritable.{AreWritableAxes, AreWritableNumbers, IsFormulaBeside, IsActionOver, AreWritableNests}
+use Rattle.session_state.specs.declared.state.SessionState.{SessionState}
+use Rattle.session_state.specs.Scripted.{HasAnswers, answered_tree}
 
 -- the tree of a command, inside whose assumptions and constraints no other stands
 abbrev pub asked_command : code.Command → CommandTree

@@ -1,23 +1,25 @@
 -- What is known while the commands inside a statement are answered.
 use Rattle.std.specs.Prelude.{◌≡◌, ◌≢◌, ℕ, List, length}
-use Rattle.formula_meaning.specs.Every.{Every}
-use Rattle.formula_meaning.specs.Numbers.{IsAtomInLimit}
+use Rattle.logic_meaning.specs.Every.{Every}
+use Rattle.logic_meaning.specs.Numbers.{IsAtomInLimit}
 use Rattle.formula_store.specs.declared.id.FormulaId.{FormulaId}
 use Rattle.formula_store.specs.Nodes.{tree, IsId}
-use Rattle.qe_syntax.specs.declared.tree.Formula.{Formula}
-use Rattle.qe_syntax.specs.CodeTrees.{inner_of}
-use Rattle.qe_syntax.specs.Holes.{Nest, nest, alone}
-use Rattle.statement_syntax.specs.declared.statement.Action as acts
-use Rattle.statement_syntax.specs.CodeTrees.{whole_action}
-use Rattle.statement_syntax.specs.Texts.{formulas_in}
-use Rattle.statement_syntax.specs.Writable.{IsFormulaBeside, IsInnerOver}
-use Rattle.session_meaning.specs.declared.line.StatementError.{StatementError}
-use Rattle.session_meaning.specs.declared.line.StatementError.TheVariants as error
-use Rattle.session_meaning.specs.State.{State, with_names, with_answers}
-use Rattle.session_meaning.specs.Inside.{GivesAll, SomeStops}
-use Rattle.session_meaning.specs.Reply.{with_variables}
-use Rattle.point_queries.specs.FromProblemReading.{AreNumbered}
-use Rattle.point_queries.specs.FromSessionState.{SessionState, IsSessionFormula, state_of, answered_tree}
+use Rattle.written_syntax.specs.declared.tree.Formula.{Formula}
+use Rattle.written_syntax.specs.CodeTrees.{inner_of}
+use Rattle.language_meaning.specs.Holes.{Nest, nest, alone}
+use Rattle.written_syntax.specs.declared.statement.Action as acts
+use Rattle.written_syntax.specs.StatementSyntaxCodeTrees.{whole_action}
+use Rattle.language_meaning.specs.Texts.{formulas_in}
+use Rattle.written_syntax.specs.StatementSyntaxWritable.{IsFormulaBeside, IsInnerOver}
+use Rattle.program_meaning.specs.declared.line.StatementError.{StatementError}
+use Rattle.program_meaning.specs.declared.line.StatementError.TheVariants as error
+use Rattle.program_meaning.specs.State.{State, with_names, with_answers}
+use Rattle.program_meaning.specs.Inside.{GivesAll, SomeStops}
+use Rattle.program_meaning.specs.Reply.{with_variables}
+use Rattle.form_commands.specs.Reading.{AreNumbered}
+use Rattle.session_state.specs.declared.state.SessionState.{SessionState}
+use Rattle.session_state.specs.Keeping.{IsSessionFormula, state_of}
+use Rattle.session_state.specs.Scripted.{answered_tree}
 use Rattle.session_commands.specs.Asking.{asked_action}
 
 -- an answer as a session has it: the id of a formula of the session, with its numbers within the limit

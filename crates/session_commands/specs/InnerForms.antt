@@ -1,9 +1,9 @@
 -- The formulas that commands inside others ask for.
 use Rattle.std.specs.Prelude.{◌≡◌}
-use Rattle.qe_syntax.specs.declared.tree.Formula.{Formula}
-use Rattle.qe_syntax.specs.Holes.{Nnf, Pnf, Dnf, Cnf, Simpl, Qe, Nest, nested, nested_under}
-use Rattle.qe_syntax.specs.CodeTrees.{whole_formula, whole_formulas}
-use Rattle.point_queries.specs.FromSharedForms.clause_form_variants as clause_form
+use Rattle.written_syntax.specs.declared.tree.Formula.{Formula}
+use Rattle.language_meaning.specs.Holes.{Nnf, Pnf, Dnf, Cnf, Simpl, Qe, Nest, nested, nested_under}
+use Rattle.written_syntax.specs.CodeTrees.{whole_formula, whole_formulas}
+use Rattle.form_commands.specs.declared.forms.ClauseForm.TheVariants as clause_form
 use Rattle.session_commands.specs.declared.formulas.FormCommand.{FormCommand}
 use Rattle.session_commands.specs.declared.formulas.FormCommand.TheVariants as wanted
 

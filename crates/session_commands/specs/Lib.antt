@@ -7,6 +7,3 @@ pub mod Through
 pub mod Accepted
 pub mod Seen
 pub mod Standing
-pub mod FromBlockScheduler
-pub mod FromProblemReading
-pub mod FromSessionState

@@ -1,13 +1,13 @@
 -- Commands inside formulas, answered one after the other in the order of their last tokens.
 use Rattle.std.specs.Prelude.{◌≡◌, ◌⊎◌, ℕ, List, [], ◌∷◌, ◌++◌, length}
-use Rattle.formula_meaning.specs.Tree.{Tree}
-use Rattle.qe_syntax.specs.Holes.{Nest, nest}
-use Rattle.statement_syntax.specs.LastTokens.{inside_count}
-use Rattle.session_meaning.specs.declared.line.StatementError.{StatementError}
-use Rattle.session_meaning.specs.State.{State, with_names, with_answers}
-use Rattle.session_meaning.specs.Meaning.{Meaning}
-use Rattle.session_meaning.specs.Causes.{IsFirst}
-use Rattle.session_meaning.specs.Inside.{inner_use, inner_meaning, IsInnerAnswer}
+use Rattle.logic_meaning.specs.Tree.{Tree}
+use Rattle.language_meaning.specs.Holes.{Nest, nest}
+use Rattle.written_syntax.specs.LastTokens.{inside_count}
+use Rattle.program_meaning.specs.declared.line.StatementError.{StatementError}
+use Rattle.program_meaning.specs.State.{State, with_names, with_answers}
+use Rattle.program_meaning.specs.Meaning.{Meaning}
+use Rattle.program_meaning.specs.Causes.{IsFirst}
+use Rattle.program_meaning.specs.Inside.{inner_use, inner_meaning, IsInnerAnswer}
 
 -- what a command inside a formula means
 abbrev pub nest_meaning : Nest → Meaning

@@ -1,15 +1,16 @@
 -- What is seen of a session between statements: the formulas that it keeps, each once, what is bound to names by its place among them, what is assumed, and its
 -- limits; and the state that this stands for.
 use Rattle.std.specs.Prelude.{ℕ, List, []}
-use Rattle.atom_normal.specs.declared.atoms.Context.{Context}
-use Rattle.atom_normal.specs.Atoms.{context_of}
+use Rattle.normal_atoms.specs.declared.atoms.Context.{Context}
+use Rattle.normal_atoms.specs.Atoms.{context_of}
 use Rattle.formula_tree.specs.declared.shape.Shape.{Shape}
 use Rattle.formula_resolving.specs.BoundIds.{trees_bound}
 use Rattle.formula_store.specs.declared.id.FormulaId.{FormulaId}
 use Rattle.formula_store.specs.Nodes.{tree}
-use Rattle.point_queries.specs.FromBlockScheduler.{Limits}
-use Rattle.session_meaning.specs.State.{State}
-use Rattle.point_queries.specs.FromStandingAssumptions.{Assumption, standing_trees}
+use Rattle.form_commands.specs.FromEngineAnswers.{Limits}
+use Rattle.program_meaning.specs.State.{State}
+use Rattle.session_state.specs.declared.assumption.Assumption.{Assumption}
+use Rattle.session_state.specs.Trees.{standing_trees}
 
 pub record Seen : Type 0 where
   pub context : Context

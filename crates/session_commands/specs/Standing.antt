@@ -1,20 +1,20 @@
 -- Assumptions that are put behind the standing ones.
 use Rattle.std.specs.Prelude.{◌≡◌, ◌≢◌, ℕ, List, Bool, None}
 use Rattle.std.specs.List.{fold}
-use Rattle.formula_meaning.specs.Tree.{Tree}
-use Rattle.qe_syntax.specs.Trees.{FormulaTrees}
-use Rattle.point_queries.specs.FromSessionState.{SessionState}
-use Rattle.point_queries.specs.FromStandingAssumptions.{standing_trees}
-use Rattle.session_meaning.specs.declared.line.StatementError.{StatementError}
-use Rattle.session_meaning.specs.declared.line.StatementError.TheVariants as error
-use Rattle.session_meaning.specs.State.{State}
-use Rattle.session_meaning.specs.Standing.{with_assumption}
-use Rattle.session_meaning.specs.Meaning.{assumption_meaning}
-use Rattle.session_meaning.specs.Numbered.{numbered}
-use Rattle.session_meaning.specs.Reply.{AnswersAssumptions}
-use Rattle.session_meaning.specs.declared.line.Line.{Line}
-use Rattle.session_meaning.specs.Causes.{IsFirst}
-use Rattle.point_queries.specs.FromCommandTools.{use_of}
+use Rattle.logic_meaning.specs.Tree.{Tree}
+use Rattle.language_meaning.specs.Trees.{FormulaTrees}
+use Rattle.session_state.specs.declared.state.SessionState.{SessionState}
+use Rattle.session_state.specs.Trees.{standing_trees}
+use Rattle.program_meaning.specs.declared.line.StatementError.{StatementError}
+use Rattle.program_meaning.specs.declared.line.StatementError.TheVariants as error
+use Rattle.program_meaning.specs.State.{State}
+use Rattle.program_meaning.specs.Standing.{with_assumption}
+use Rattle.program_meaning.specs.Meaning.{assumption_meaning}
+use Rattle.session_state.specs.Numbered.{numbered}
+use Rattle.program_meaning.specs.Reply.{AnswersAssumptions}
+use Rattle.program_meaning.specs.declared.line.Line.{Line}
+use Rattle.program_meaning.specs.Causes.{IsFirst}
+use Rattle.form_commands.specs.Replies.{use_of}
 
 -- The assumptions are refused with the word under any limit of nodes, in a state in which their variables have their numbers; of want of memory nothing is said.
 abbrev pub RefusesAssumptions : FormulaTrees → State → Bool → StatementError → Type 0

@@ -1,33 +1,36 @@
 -- What the steps of an answer give one another.
 use Rattle.std.specs.Prelude.{◌≡◌, ◌⊎◌, ◌≤◌, ℕ, List, Bool, Option, Some, None, length}
-use Rattle.formula_meaning.specs.Formula.{none, also}
-use Rattle.formula_meaning.specs.Tree.{Tree}
-use Rattle.point_queries.specs.FromSessionState.{SessionState, KeepsState}
-use Rattle.qe_syntax.specs.Trees.{FormulaTree, FormulaTrees}
-use Rattle.qe_syntax.specs.CodeTrees.{formula_trees}
-use Rattle.statement_syntax.specs.Statements.{CommandTree, Echo, Nnf, Pnf, Dnf, Cnf, Simpl, Qe}
-use Rattle.formula_tree.specs.Bindings.{bind}
-use Rattle.resolved_formulas.specs.Resolving.{BoundTrees, resolve}
+use Rattle.logic_meaning.specs.Formula.{none, also}
+use Rattle.logic_meaning.specs.Tree.{Tree}
+use Rattle.session_state.specs.declared.state.SessionState.{SessionState}
+use Rattle.session_state.specs.Growth.{KeepsState}
+use Rattle.language_meaning.specs.Trees.{FormulaTree, FormulaTrees}
+use Rattle.written_syntax.specs.CodeTrees.{formula_trees}
+use Rattle.language_meaning.specs.Statements.{CommandTree, Echo, Nnf, Pnf, Dnf, Cnf, Simpl, Qe}
+use Rattle.logic_meaning.specs.Bindings.{bind}
+use Rattle.language_meaning.specs.Resolving.{BoundTrees, resolve}
 use Rattle.formula_store.specs.declared.id.FormulaId.{FormulaId}
-use Rattle.session_meaning.specs.declared.line.Line.{Line}
-use Rattle.session_meaning.specs.declared.line.StatementError.{StatementError}
-use Rattle.session_meaning.specs.declared.line.StatementError.TheVariants as error
-use Rattle.point_queries.specs.FromSharedForms.{Form, IsFormOf}
-use Rattle.point_queries.specs.FromSharedForms.form_variants as form
+use Rattle.program_meaning.specs.declared.line.Line.{Line}
+use Rattle.program_meaning.specs.declared.line.StatementError.{StatementError}
+use Rattle.program_meaning.specs.declared.line.StatementError.TheVariants as error
+use Rattle.form_commands.specs.declared.forms.Form.{Form}
+use Rattle.form_commands.specs.Forms.{IsFormOf}
+use Rattle.form_commands.specs.declared.forms.Form.TheVariants as form
 use Rattle.session_commands.specs.declared.formulas.FormCommand.{FormCommand}
 use Rattle.session_commands.specs.declared.formulas.FormCommand.TheVariants as wanted
-use Rattle.point_queries.specs.FromSharedForms.clause_form_variants as clause_form
-use Rattle.point_queries.specs.FromSharedForms.way_variants as way
-use Rattle.session_meaning.specs.State.{State, known}
-use Rattle.session_meaning.specs.Assumptions.{assumed}
-use Rattle.point_queries.specs.FromCommandTools.{use_of, Refuses, IsLongText, LineFault}
-use Rattle.session_meaning.specs.Meaning.{meaning}
-use Rattle.session_meaning.specs.Uses.{Use, formula_line}
-use Rattle.session_meaning.specs.Causes.{HasNoRoom, IsTooLarge}
-use Rattle.session_meaning.specs.Reply.{IsLine}
-use Rattle.session_meaning.specs.Points.{IsQuantified}
-use Rattle.formula_resolving.specs.declared.error.StaticError.TheVariants as static
-use Rattle.point_queries.specs.FromProblemReading.{AreReadable, HasNoEarlier, AreUnread}
+use Rattle.form_commands.specs.declared.forms.ClauseForm.TheVariants as clause_form
+use Rattle.form_commands.specs.declared.way.Way.TheVariants as way
+use Rattle.program_meaning.specs.State.{State, known}
+use Rattle.program_meaning.specs.Assumptions.{assumed}
+use Rattle.form_commands.specs.Replies.{use_of, Refuses}
+use Rattle.form_commands.specs.Refusals.{IsLongText, LineFault}
+use Rattle.program_meaning.specs.Meaning.{meaning}
+use Rattle.program_meaning.specs.Uses.{Use, formula_line}
+use Rattle.program_meaning.specs.Causes.{HasNoRoom, IsTooLarge}
+use Rattle.program_meaning.specs.Reply.{IsLine}
+use Rattle.program_meaning.specs.Points.{IsQuantified}
+use Rattle.language_meaning.specs.declared.static_error.StaticError.TheVariants as static
+use Rattle.form_commands.specs.Reading.{AreReadable, HasNoEarlier, AreUnread}
 
 -- the assumptions
 abbrev pub given_trees : FormCommand → FormulaTrees

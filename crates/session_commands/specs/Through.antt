@@ -3,14 +3,14 @@ use Rattle.std.specs.Prelude.{◌≡◌, ◌≢◌, ℕ, []}
 use Rattle.formula_tree.specs.Makers.{Keeps}
 use Rattle.formula_resolving.specs.Numbering.{Grows}
 use Rattle.formula_store.specs.Nodes.{tree, IsId}
-use Rattle.statement_syntax.specs.declared.statement.Statement.{Statement}
-use Rattle.statement_syntax.specs.CodeTrees.{statement_tree}
-use Rattle.session_meaning.specs.declared.line.Line.{Line}
-use Rattle.session_meaning.specs.declared.line.StatementError.{StatementError}
-use Rattle.session_meaning.specs.declared.line.StatementError.TheVariants as error
-use Rattle.session_meaning.specs.State.{State, with_answers}
-use Rattle.session_meaning.specs.Reply.{IsReached, Answers, RefusesStatement}
-use Rattle.point_queries.specs.FromSessionState.{SessionState}
+use Rattle.written_syntax.specs.declared.statement.Statement.{Statement}
+use Rattle.written_syntax.specs.StatementSyntaxCodeTrees.{statement_tree}
+use Rattle.program_meaning.specs.declared.line.Line.{Line}
+use Rattle.program_meaning.specs.declared.line.StatementError.{StatementError}
+use Rattle.program_meaning.specs.declared.line.StatementError.TheVariants as error
+use Rattle.program_meaning.specs.State.{State, with_answers}
+use Rattle.program_meaning.specs.Reply.{IsReached, Answers, RefusesStatement}
+use Rattle.session_state.specs.declared.state.SessionState.{SessionState}
 
 -- the statement is answered in a state that is reached through the commands inside it, and this is the state after it
 pub record IsAnsweredThrough (t : Statement) (s : State) (limit : ℕ) (answer : Line) (after : State) : Type 0 where

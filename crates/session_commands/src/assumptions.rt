@@ -2,30 +2,30 @@
 
 ghost use Rattle.std.specs.Prelude.{◌≡◌, ℕ, [], IfOk, IfErr, OnOk, OnErr, length, map};
 ghost use Rattle.std.specs.List.{AllByRecursion, fold};
-ghost use Rattle.formula_meaning.specs.Some.{EachOf};
-ghost use Rattle.formula_meaning.specs.Within.{IsTreeWithin};
+ghost use Rattle.logic_meaning.specs.Some.{EachOf};
+ghost use Rattle.formula_laws.specs.Within.{IsTreeWithin};
 ghost use Rattle.formula_store.specs.Nodes.{tree, IsId};
-ghost use Rattle.qe_syntax.specs.Writable.{AreWritableFormulas};
-ghost use Rattle.qe_syntax.specs.Trees.{formulas_of};
-ghost use Rattle.qe_syntax.specs.CodeTrees.{formula_tree};
-ghost use Rattle.session_meaning.specs.Numbered.{numbered};
-ghost use Rattle.session_meaning.specs.Reply.{IsLine, AnswersAssumptions};
-ghost use Rattle.session_meaning.specs.Standing.{with_assumption, standing_text};
-ghost use Rattle.session_meaning.specs.State.{with_standing};
-ghost use Rattle.point_queries.specs.FromSessionState.{state_of, IsSessionState, KeepsState, GrowsState};
-ghost use Rattle.point_queries.specs.FromStandingAssumptions.{standing_trees, IsFront};
-ghost use Rattle.point_queries.specs.FromCommandTools.{IsLongText, LineFault};
-ghost use Rattle.point_queries.specs.FromProblemReading.{AreNumbered};
+ghost use Rattle.written_syntax.specs.Writable.{AreWritableFormulas};
+ghost use Rattle.language_meaning.specs.Trees.{formulas_of};
+ghost use Rattle.written_syntax.specs.CodeTrees.{formula_tree};
+ghost use Rattle.session_state.specs.Numbered.{numbered};
+ghost use Rattle.program_meaning.specs.Reply.{IsLine, AnswersAssumptions};
+ghost use Rattle.program_meaning.specs.Standing.{with_assumption, standing_text};
+ghost use Rattle.program_meaning.specs.State.{with_standing};
+ghost use Rattle.session_state.specs.Keeping.{state_of, IsSessionState};
+ghost use Rattle.session_state.specs.Growth.{KeepsState, GrowsState};
+ghost use Rattle.session_state.specs.Trees.{standing_trees, IsFront};
+ghost use Rattle.form_commands.specs.Refusals.{IsLongText, LineFault};
+ghost use Rattle.form_commands.specs.Reading.{AreNumbered};
 ghost use Rattle.session_commands.specs.Standing.{RefusesAssumptions, RefusesAssumed, AnswersAssumed, grown_by, IsGrown};
 
+use form_commands::{number_all, print_refusal, printed_line, read_all};
 use formula_store::{FormulaId, Store};
 use formula_tree::Shape;
-use point_queries::{
-    Assumption, SessionState, Standing, number_all, print_refusal, printed_line, read_all,
-};
-use qe_syntax::Formula;
-use session_meaning::{Line, StatementError};
+use program_meaning::{Line, StatementError};
+use session_state::{Assumption, SessionState, Standing};
 use std::alloc::{AllocError, Global};
+use written_syntax::Formula;
 
 /// Puts the assumptions behind the standing ones, and gives the line of them all. After an `Err` the names may have grown.
 pub(crate) fn assume(

@@ -1,46 +1,48 @@
 //! Commands that give a formula: it is printed, or bound to a name.
 
-ghost use Rattle.formula_meaning.specs.Formula.{also};
+ghost use Rattle.logic_meaning.specs.Formula.{also};
 ghost use Rattle.std.specs.Prelude.{◌≡◌, ◌⊎◌, ◌↔◌, ◌<◌, ◌≤◌, ◌++◌, true, IsTrue, Option, Some, IfOk, IfErr, IfSome, IfNone, MatchOption, OnOk, OnErr, length, codes, map};
 ghost use Rattle.std.specs.Bool.{MatchBool};
-ghost use Rattle.formula_tree.specs.Bindings.{bound_to, most_bound};
+ghost use Rattle.logic_meaning.specs.Bindings.{bound_to, most_bound};
 ghost use Rattle.formula_store.specs.Nodes.{tree, IsId};
-ghost use Rattle.formula_meaning.specs.Within.{IsTreeWithin};
-ghost use Rattle.formula_meaning.specs.Members.{HasTwoMembers};
-ghost use Rattle.redlog_printer.specs.Text.{tree_text};
-ghost use Rattle.redlog_printer.specs.Writing.{text_limit};
-ghost use Rattle.qe_syntax.specs.Writable.{AreWritableFormulas};
+ghost use Rattle.formula_laws.specs.Within.{IsTreeWithin};
+ghost use Rattle.logic_meaning.specs.Members.{HasTwoMembers};
+ghost use Rattle.logic_meaning.specs.Text.{tree_text};
+ghost use Rattle.logic_meaning.specs.Writing.{text_limit};
+ghost use Rattle.written_syntax.specs.Writable.{AreWritableFormulas};
 ghost use Rattle.session_commands.specs.Asking.{asked_command, formula_asked};
 ghost use Rattle.session_commands.specs.InnerForms.{IsInnerForm};
-ghost use Rattle.qe_syntax.specs.CodeTrees.{whole_command as inner_nest};
-ghost use Rattle.qe_syntax.specs.Trees.{formulas_of};
-ghost use Rattle.qe_syntax.specs.CodeTrees.{formula_tree};
-ghost use Rattle.point_queries.specs.FromCommandTools.{use_of, Refuses, RefusesCommand, IsFormulaAnswer, AnswersFormula, IsLongText, LineFault};
+ghost use Rattle.written_syntax.specs.CodeTrees.{whole_command as inner_nest, formula_tree};
+ghost use Rattle.language_meaning.specs.Trees.{formulas_of};
+ghost use Rattle.form_commands.specs.Replies.{use_of, Refuses, RefusesCommand, IsFormulaAnswer, AnswersFormula};
+ghost use Rattle.form_commands.specs.Refusals.{IsLongText, LineFault};
 ghost use Rattle.session_commands.specs.Steps.{given_trees, form_of, command_of, HasUnwantedQuantifier, IsReady, IsUnready, IsWantedOf, MayBind, TargetFault, IsLineOf, GiveFault, bound_after, IsFirstAttempt, IsByCases, IsForSize, IsUnfit, plain_of, RefusesAsked, AttemptRefuses, KeepsWhereEliminated, HasFewBytes};
-ghost use Rattle.point_queries.specs.FromProblemReading.{AreNumbered, AreRead};
-ghost use Rattle.session_meaning.specs.Meaning.{meaning};
-ghost use Rattle.session_meaning.specs.Numbered.{numbered};
-ghost use Rattle.session_meaning.specs.FormulaGiven.{GivesFormula};
-ghost use Rattle.session_meaning.specs.Uses.{formula_line};
-ghost use Rattle.formula_meaning.specs.Tree.{tree_distinct};
-ghost use Rattle.session_meaning.specs.declared.TheConstants.{MOST_SUBFORMULAS};
-ghost use Rattle.session_meaning.specs.Causes.{HasNoRoom};
-ghost use Rattle.session_meaning.specs.Reply.{IsLine};
-ghost use Rattle.point_queries.specs.FromSessionState.{state_of, IsSessionState, HasIds, HasAnswers, answered_tree, KeepsState, GrowsState};
+ghost use Rattle.form_commands.specs.Reading.{AreNumbered, AreRead};
+ghost use Rattle.program_meaning.specs.Meaning.{meaning};
+ghost use Rattle.session_state.specs.Numbered.{numbered};
+ghost use Rattle.session_state.specs.FormulaGiven.{GivesFormula};
+ghost use Rattle.program_meaning.specs.Uses.{formula_line};
+ghost use Rattle.logic_meaning.specs.Tree.{tree_distinct};
+ghost use Rattle.program_meaning.specs.declared.limit.TheConstants.{MOST_SUBFORMULAS};
+ghost use Rattle.program_meaning.specs.Causes.{HasNoRoom};
+ghost use Rattle.program_meaning.specs.Reply.{IsLine};
+ghost use Rattle.session_state.specs.Keeping.{state_of, IsSessionState, HasIds};
+ghost use Rattle.session_state.specs.Scripted.{HasAnswers, answered_tree};
+ghost use Rattle.session_state.specs.Growth.{KeepsState, GrowsState};
 
+use form_commands::{
+    ClauseForm, Form, Premised, Way, Workshop, formed, forms_refusal, holds_quantifier,
+    number_parts, read_parts, text_of,
+};
 use formula_store::FormulaId;
 use formula_tree::{BindError, Bindings};
-use point_queries::{
-    ClauseForm, Form, Premised, SessionState, Way, Workshop, formed, forms_refusal,
-    holds_quantifier, number_parts, read_parts, text_of,
-};
+use logic_meaning::{Name, TEXT_LIMIT};
+use program_meaning::{Line, MOST_SUBFORMULAS, StatementError};
 use qe_parallel::Gate;
-use qe_syntax::{Formula, Formulas, InnerCommand, Name};
-use redlog_printer::TEXT_LIMIT;
-use session_meaning::{Line, MOST_SUBFORMULAS, StatementError};
-use statement_syntax::Command;
+use session_state::SessionState;
 use std::alloc::Global;
 use std::thread::Threads;
+use written_syntax::{Command, Formula, Formulas, InnerCommand};
 
 /// At most so many names are bound.
 const MOST_BOUND: usize = 256;
@@ -132,7 +134,7 @@ pub(crate) fn form_command_of(command: &Command) -> Option<(FormCommand<'_>, &Fo
 }
 
 /// What formula a command inside another one asks for, and of which one.
-#[tactic(auto, using(qe_syntax::proofs::TreeEquations::wholes))]
+#[tactic(auto, using(written_syntax::proofs::TreeEquations::wholes))]
 pub(crate) fn inner_form_of(command: &InnerCommand) -> (FormCommand<'_>, &Formula)
     ensures form { IsInnerForm result.0 result.1.now (inner_nest command.now) }
     ensures first { IsFirstAttempt result.0 }

@@ -3,31 +3,33 @@
 ghost use Rattle.std.specs.Prelude.{◌≡◌, ◌≢◌, ◌≤◌, ◌+◌, ◌++◌, [], None, Some, IfOk, IfErr, IfSome, IfNone, OnOk, length, map};
 ghost use Rattle.std.specs.List.{AllByRecursion, fold};
 ghost use Rattle.formula_store.specs.Nodes.{tree};
-ghost use Rattle.formula_tree.specs.Names.{with_name};
+ghost use Rattle.logic_meaning.specs.Names.{with_name};
 ghost use Rattle.formula_resolving.specs.Numbering.{Grows};
-ghost use Rattle.inner_commands.specs.Order.{nest_of, IsCounted, AreInOrder};
-ghost use Rattle.qe_syntax.specs.CodeTrees.{inner_of, whole_command as inner_nest};
-ghost use Rattle.statement_syntax.specs.LastTokens.{inside_count};
-ghost use Rattle.point_queries.specs.FromSessionState.{state_of, IsSessionState, GrowsState};
-ghost use Rattle.session_meaning.specs.Causes.{IsFirst};
-ghost use Rattle.session_meaning.specs.Inside.{inner_use, IsInnerAnswer};
-ghost use Rattle.session_meaning.specs.Meaning.{meaning, text_variables};
+ghost use Rattle.formula_resolving.specs.Order.{nest_of, IsCounted, AreInOrder};
+ghost use Rattle.written_syntax.specs.CodeTrees.{inner_of, whole_command as inner_nest};
+ghost use Rattle.written_syntax.specs.LastTokens.{inside_count};
+ghost use Rattle.session_state.specs.Keeping.{state_of, IsSessionState};
+ghost use Rattle.session_state.specs.Growth.{GrowsState};
+ghost use Rattle.program_meaning.specs.Causes.{IsFirst};
+ghost use Rattle.program_meaning.specs.Inside.{inner_use, IsInnerAnswer};
+ghost use Rattle.program_meaning.specs.Meaning.{meaning, text_variables};
 ghost use Rattle.session_commands.specs.Asking.{asked_command, formula_asked, formula_in, command_in, IsWritten, CanAct, CanAskOf};
 ghost use Rattle.session_commands.specs.Inner.{IsOwn, IsNumberedNest, AreAnswered, AreStopped, IsWrittenFormula};
 ghost use Rattle.session_commands.specs.Through.{LeavesState};
 ghost use Rattle.session_commands.specs.Running.{nest_meaning, IsStep, IsHalted, Runs, Halts};
 
 use crate::formulas::{inner_form_of, wanted_formula};
+use form_commands::{Workshop, number_all};
+use formula_resolving::{Step, commands_inside, number_text};
 use formula_store::FormulaId;
 use formula_tree::{Bindings, Names};
-use inner_commands::{Step, commands_inside, number_text};
-use point_queries::{SessionState, Workshop, number_all, number_axes, number_entries};
+use point_queries::{number_axes, number_entries};
+use program_meaning::StatementError;
 use qe_parallel::Gate;
-use qe_syntax::{Formula, InnerCommand};
-use session_meaning::StatementError;
-use statement_syntax::{Action, Command};
+use session_state::SessionState;
 use std::alloc::Global;
 use std::thread::Threads;
+use written_syntax::{Action, Command, Formula, InnerCommand};
 
 /// Answers the commands inside the action, and keeps the answers of those that stand in no other. Where there are some, the variables of the
 /// whole text get their numbers first. After an `Err` the names may have grown.

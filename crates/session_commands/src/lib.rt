@@ -8,6 +8,4 @@ mod laws;
 mod session;
 
 pub use laws::truth_is_never_refused;
-pub use point_queries::Limits;
 pub use session::Session;
-pub use session_meaning::{Line, StatementError};

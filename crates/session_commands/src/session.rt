@@ -1,35 +1,36 @@
 ghost use Rattle.std.specs.Prelude.{◌≡◌, ◌≤◌, [], Some, None, IfOk, IfErr, OnOk, OnErr};
-ghost use Rattle.qe_syntax.specs.Holes.{alone};
+ghost use Rattle.language_meaning.specs.Holes.{alone};
 ghost use Rattle.session_commands.specs.Asking.{asked_command, asked_action, IsWritten, CanAsk, CanAct};
-ghost use Rattle.point_queries.specs.FromSessionState.{state_of, IsSessionState, GrowsState};
-ghost use Rattle.point_queries.specs.FromCommandTools.{use_of, RefusesCommand, IsStopped, AnswersFormula, BindsFormula, read_refusal};
-ghost use Rattle.session_meaning.specs.Meaning.{meaning};
-ghost use Rattle.session_meaning.specs.Numbered.{numbered};
-ghost use Rattle.session_meaning.specs.FormulaGiven.{GivesFormula};
-ghost use Rattle.session_meaning.specs.Reply.{IsLine, AnswersSaid, Answers, with_variables, Reply};
+ghost use Rattle.session_state.specs.Keeping.{state_of, IsSessionState};
+ghost use Rattle.session_state.specs.Growth.{GrowsState};
+ghost use Rattle.form_commands.specs.Replies.{use_of, RefusesCommand, IsStopped, AnswersFormula, BindsFormula};
+ghost use Rattle.form_commands.specs.Refusals.{read_refusal};
+ghost use Rattle.program_meaning.specs.Meaning.{meaning};
+ghost use Rattle.session_state.specs.Numbered.{numbered};
+ghost use Rattle.session_state.specs.FormulaGiven.{GivesFormula};
+ghost use Rattle.program_meaning.specs.Reply.{IsLine, AnswersSaid, Answers, with_variables, Reply};
 ghost use Rattle.session_commands.specs.Through.{IsStatementAnswer, IsStatementStopped, IsAnsweredThrough, LeavesState};
-ghost use Rattle.session_meaning.specs.Words.{context_text};
+ghost use Rattle.program_meaning.specs.Words.{context_text};
 ghost use Rattle.session_commands.specs.Seen.{state_in};
-ghost use Rattle.session_meaning.specs.State.{first_state, theory_of, chosen};
+ghost use Rattle.program_meaning.specs.State.{first_state, theory_of, chosen};
 
 use crate::assumptions::{assume, retract};
 use crate::formulas::{answer_formula, form_command_of};
 use crate::inner::answer_inside;
-use atom_normal::Context;
-use certificate_queries::{answer_certificate, answer_check};
-use least_queries::answer_least;
-use point_queries::{
-    Limits, SessionState, Workshop, answer_cases, answer_grid, answer_holds, answer_sample,
-    printed_line,
-};
+use constraint_queries::{answer_certificate, answer_check, answer_least};
+use form_commands::{Limits, Workshop, printed_line};
+use language_meaning::{ReadError, Setting};
+use logic_meaning::Name;
+use normal_atoms::Context;
+use point_queries::{answer_cases, answer_grid, answer_holds, answer_sample};
+use program_meaning::{Line, StatementError};
 use qe_parallel::Gate;
-use qe_syntax::Name;
-use redlog_reader::{ReadError, read_statement};
-use session_meaning::{Line, StatementError};
-use statement_syntax::{Action, Command, Setting, Statement};
+use redlog_reader::read_statement;
+use session_state::SessionState;
 use std::alloc::Global;
 use std::marker::Model;
 use std::thread::Threads;
+use written_syntax::{Action, Command, Statement};
 
 /// What the statements of a script share. It is seen as its state and its limits.
 #[derive(Drop)]
@@ -40,7 +41,7 @@ pub struct Session {
 
 impl Model for Session {
     ghost use Rattle.std.specs.Prelude.{◌≡◌, ◌≤◌, []};
-    ghost use Rattle.point_queries.specs.FromSessionState.{IsSessionState};
+    ghost use Rattle.session_state.specs.Keeping.{IsSessionState};
     ghost use Rattle.session_commands.specs.Seen.{Seen};
 
     ghost Value = { Seen };

@@ -1,15 +1,15 @@
 -- A formula beside which commands stand is one as scripts have it.
 use Rattle.std.proofs.Common.{◌≡◌, ℕ, List, [], ◌∷◌, ◌++◌, Bool, true, false, length, refl, ap, ap₂, subst}
 use Rattle.std.specs.Prelude.{nat_lt, if◌then◌else◌}
-use Rattle.formula_meaning.specs.Formula.{Yes, No, One, Not, And, Or, Impl, Repl, Equiv, Ex, All}
-use Rattle.formula_meaning.specs.Formula as plain
-use Rattle.formula_meaning.specs.Replaced.{all_replaced}
-use Rattle.qe_syntax.specs.Trees.{Compare, Cong, Ncong, Bound, FormulaTree, FormulaTrees}
-use Rattle.qe_syntax.specs.Holes.{Nests, alone, beside}
-use Rattle.qe_syntax.specs.Proper.{AreFormulas, IsProperFormula, AreProperFormulas}
-use Rattle.qe_syntax.proofs.WritableLemmas.{writable_formula}
-use Rattle.resolved_formulas.specs.Resolving.{formula_variables, all_variables}
-use Rattle.statement_syntax.specs.Writable.{unanswered_atom, unanswered, IsFormulaBeside}
+use Rattle.logic_meaning.specs.Formula.{Yes, No, One, Not, And, Or, Impl, Repl, Equiv, Ex, All}
+use Rattle.logic_meaning.specs.Formula as plain
+use Rattle.logic_meaning.specs.Replaced.{all_replaced}
+use Rattle.language_meaning.specs.Trees.{Compare, Cong, Ncong, Bound, FormulaTree, FormulaTrees}
+use Rattle.language_meaning.specs.Holes.{Nests, alone, beside}
+use Rattle.written_syntax.specs.Proper.{AreFormulas, IsProperFormula, AreProperFormulas}
+use Rattle.written_syntax.proofs.WritableLemmas.{writable_formula}
+use Rattle.language_meaning.specs.Resolving.{formula_variables, all_variables}
+use Rattle.written_syntax.specs.StatementSyntaxWritable.{unanswered_atom, unanswered, IsFormulaBeside}
 use Rattle.session_state.specs.Scripted.{IsScripted}
 use Rattle.session_state.proofs.VariableLemmas.{AllVariables, variables_of_formula}
 

@@ -6,14 +6,14 @@ use Rattle.std.specs.Prelude.{option_map, slice_get, if◌then◌else◌}
 use Rattle.std.specs.List.{IsDistinct, AllByRecursion, list_any}
 use Rattle.std.specs.Map.{keys_of}
 use Rattle.indexmap.proofs.MapLemmas.{insert_entry-absent, absent_from_lookup}
-use Rattle.formula_meaning.specs.Tree.{Tree}
-use Rattle.qe_syntax.specs.Value.{same_name}
-use Rattle.formula_tree.specs.Bindings.{bound_to, bind, most_bound}
+use Rattle.logic_meaning.specs.Tree.{Tree}
+use Rattle.language_meaning.specs.Value.{same_name}
+use Rattle.logic_meaning.specs.Bindings.{bound_to, bind, most_bound}
 use Rattle.formula_tree.specs.Makers.{Keeps}
-use Rattle.formula_tree.specs.Names.{with_name}
+use Rattle.logic_meaning.specs.Names.{with_name}
 use Rattle.resolved_formulas.proofs.PlaceLaws.{same_is, one_place, after_distinct}
-use Rattle.standing_assumptions.specs.FromFormulaResolving.{AreIds, trees_bound}
-use Rattle.standing_assumptions.specs.FromSessionMeaning.{HasNoRoom}
+use Rattle.formula_resolving.specs.BoundIds.{AreIds, trees_bound}
+use Rattle.program_meaning.specs.Causes.{HasNoRoom}
 
 -- ---- lists, place by place
 

@@ -1,15 +1,15 @@
 -- What names stand for in a sound state: answers, and what is bound.
 use Rattle.std.proofs.Common.{◌≡◌, ℕ, suc, List, [], ◌∷◌, ◌++◌, Bool, true, false, Some, cond, subst, length}
-use Rattle.formula_meaning.specs.Every.{Every}
-use Rattle.formula_meaning.specs.Numbers.{IsAtomInLimit}
-use Rattle.formula_meaning.specs.Some.{EachOf}
-use Rattle.formula_meaning.specs.Tree.{Tree}
-use Rattle.qe_syntax.specs.Holes.{inner_name}
-use Rattle.qe_syntax.specs.Value.{same_name}
-use Rattle.formula_tree.specs.Bindings.{bound_to}
-use Rattle.resolved_formulas.specs.Resolving.{BoundTrees}
-use Rattle.resolved_formulas.specs.Answers.{answers_from}
-use Rattle.standing_assumptions.specs.FromSessionMeaning.{State, known}
+use Rattle.logic_meaning.specs.Every.{Every}
+use Rattle.logic_meaning.specs.Numbers.{IsAtomInLimit}
+use Rattle.logic_meaning.specs.Some.{EachOf}
+use Rattle.logic_meaning.specs.Tree.{Tree}
+use Rattle.language_meaning.specs.Holes.{inner_name}
+use Rattle.language_meaning.specs.Value.{same_name}
+use Rattle.logic_meaning.specs.Bindings.{bound_to}
+use Rattle.language_meaning.specs.Resolving.{BoundTrees}
+use Rattle.language_meaning.specs.Answers.{answers_from}
+use Rattle.program_meaning.specs.State.{State, known}
 use Rattle.session_state.specs.Keeping.{IsSound}
 use Rattle.session_state.proofs.SoundLemmas.{AreSessionFormulas}
 

@@ -5,5 +5,6 @@ pub mod BindingLemmas
 pub mod KnownLemmas
 pub mod BesideLemmas
 pub mod StateLemmas
-pub mod FromAnswerTexts
+mod Growing
+mod Examples
 pub mod FromPrenexForms

@@ -3,14 +3,14 @@ use Rattle.std.proofs.Common.{◌≡◌, inl, inr, ℕ, ◌<◌, List, [], ◌�
 use Rattle.std.proofs.lemmas.Option.{slice_get_within}
 use Rattle.std.specs.Prelude.{if◌then◌else◌}
 use Rattle.std.specs.List.{list_any, fold}
-use Rattle.qe_syntax.specs.Trees.{FormulaTree}
-use Rattle.qe_syntax.specs.Value.{same_name}
-use Rattle.qe_syntax.specs.Valued.{IsIn}
-use Rattle.formula_tree.specs.Names.{with_name, place}
-use Rattle.resolved_formulas.specs.Resolving.{formula_variables}
-use Rattle.resolved_formulas.specs.NamesAfter.{names_after}
+use Rattle.language_meaning.specs.Trees.{FormulaTree}
+use Rattle.language_meaning.specs.Value.{same_name}
+use Rattle.written_syntax.specs.Valued.{IsIn}
+use Rattle.logic_meaning.specs.Names.{with_name, place}
+use Rattle.language_meaning.specs.Resolving.{formula_variables}
+use Rattle.language_meaning.specs.NamesAfter.{names_after}
 use Rattle.resolved_formulas.proofs.PlaceLaws.{same_itself, slice_place, after_has, in_either}
-use Rattle.standing_assumptions.specs.FromFormulaResolving.{Grows}
+use Rattle.formula_resolving.specs.Numbering.{Grows}
 
 or_true : (b c : Bool) → c ≡ true → (b || c) ≡ true
 or_true true c h = refl

@@ -3,41 +3,41 @@ use Rattle.std.proofs.Common.{◌≡◌, inl, inr, ℕ, ◌<◌, ◌≤◌, List
 use Rattle.std.proofs.Math.IntN.{pos}
 use Rattle.std.proofs.lemmas.Bool.{cases_eq}
 use Rattle.std.specs.Prelude.{unwrap_or, Result, Ok, Err}
-use Rattle.formula_meaning.specs.Context.{Context, Fields, Integers}
-use Rattle.formula_meaning.specs.Formula.{Formula, Formulas, Yes, No, One, Not, And, Or, Impl, Repl, Equiv, Ex, All}
-use Rattle.formula_meaning.specs.Formula as plain
-use Rattle.formula_meaning.specs.Form.{Term, coefficient, multiple}
-use Rattle.formula_meaning.specs.Sorted.{IsSorted, IsRising, AllNonzero}
-use Rattle.formula_meaning.specs.Atom.{Atom, Mentions, form_of}
-use Rattle.formula_meaning.specs.Atom as atom
-use Rattle.formula_meaning.specs.Every.{Every, EveryOf, EveryBound, EveryBoundOf}
-use Rattle.formula_meaning.specs.Plain.{IsAtomic}
-use Rattle.formula_meaning.specs.Tree.{Tree, IsFree}
-use Rattle.formula_meaning.specs.Replaced.{replaced, all_replaced}
-use Rattle.formula_meaning.specs.NegationNormal.{normal_form, normal_form_of_not, normal_forms, normal_forms_of_not}
-use Rattle.formula_meaning.proofs.EachAtom.{every_map}
-use Rattle.formula_meaning.proofs.NormalShape.{normal_form_every}
-use Rattle.formula_meaning.proofs.ReplacedShape.{every_replaced}
-use Rattle.formula_meaning.proofs.Sorted.{here, elsewhere, multiple_above}
-use Rattle.atom_normal.specs.NormalForm.{IsNormal, negated_normal}
-use Rattle.atom_normal.proofs.NormalLaws.{normal_atomic, negated_normal_is, negated_names}
-use Rattle.qe_syntax.specs.declared.tree.Relation.{Relation}
-use Rattle.qe_syntax.specs.Trees.{WrittenAtom, Compare, Cong, Ncong, Bound, FormulaTree, FormulaTrees}
-use Rattle.qe_syntax.specs.Value.{Mentions as Names}
-use Rattle.qe_syntax.specs.Valued.{IsIn}
-use Rattle.qe_syntax.specs.Proper.{AreFormulas, IsProperFormula, AreProperFormulas}
-use Rattle.formula_tree.specs.Bindings.{bound_to}
-use Rattle.resolved_formulas.specs.RationalForms.{RationalForm, Missing}
-use Rattle.resolved_formulas.specs.Resolving.{BoundTrees, resolve, resolved_atom, compared, congruent}
-use Rattle.formula_tree.specs.Names.{place}
-use Rattle.resolved_formulas.specs.NamesAfter.{names_after}
+use Rattle.logic_meaning.specs.Context.{Context, Fields, Integers}
+use Rattle.logic_meaning.specs.Formula.{Formula, Formulas, Yes, No, One, Not, And, Or, Impl, Repl, Equiv, Ex, All}
+use Rattle.logic_meaning.specs.Formula as plain
+use Rattle.logic_meaning.specs.Form.{Term, coefficient, multiple}
+use Rattle.logic_meaning.specs.Sorted.{IsSorted, IsRising, AllNonzero}
+use Rattle.logic_meaning.specs.Atom.{Atom, Mentions, form_of}
+use Rattle.logic_meaning.specs.Atom as atom
+use Rattle.logic_meaning.specs.Every.{Every, EveryOf, EveryBound, EveryBoundOf}
+use Rattle.logic_meaning.specs.Plain.{IsAtomic}
+use Rattle.logic_meaning.specs.Tree.{Tree, IsFree}
+use Rattle.logic_meaning.specs.Replaced.{replaced, all_replaced}
+use Rattle.logic_meaning.specs.NegationNormal.{normal_form, normal_form_of_not, normal_forms, normal_forms_of_not}
+use Rattle.formula_laws.proofs.EachAtom.{every_map}
+use Rattle.formula_laws.proofs.NormalShape.{normal_form_every}
+use Rattle.formula_laws.proofs.ReplacedShape.{every_replaced}
+use Rattle.formula_laws.proofs.Sorted.{here, elsewhere, multiple_above}
+use Rattle.logic_meaning.specs.NormalForm.{IsNormal, negated_normal}
+use Rattle.normal_atoms.proofs.NormalLaws.{normal_atomic, negated_normal_is, negated_names}
+use Rattle.language_meaning.specs.declared.tree.Relation.{Relation}
+use Rattle.language_meaning.specs.Trees.{WrittenAtom, Compare, Cong, Ncong, Bound, FormulaTree, FormulaTrees}
+use Rattle.language_meaning.specs.Value.{Mentions as Names}
+use Rattle.written_syntax.specs.Valued.{IsIn}
+use Rattle.written_syntax.specs.Proper.{AreFormulas, IsProperFormula, AreProperFormulas}
+use Rattle.logic_meaning.specs.Bindings.{bound_to}
+use Rattle.language_meaning.specs.RationalForms.{RationalForm, Missing}
+use Rattle.language_meaning.specs.Resolving.{BoundTrees, resolve, resolved_atom, compared, congruent}
+use Rattle.logic_meaning.specs.Names.{place}
+use Rattle.language_meaning.specs.NamesAfter.{names_after}
 use Rattle.resolved_formulas.specs.Accepted.{IsAccepted as IsResolvable}
 use Rattle.resolved_formulas.proofs.Nowhere.{every_both, quantified_have}
 use Rattle.resolved_formulas.proofs.ResolvedTruth.{IsPlain, all_plain, is_normal}
 use Rattle.resolved_formulas.proofs.ResolvedNames.{atom_named}
-use Rattle.formula_meaning.specs.Within.{IsAtomWithin, AreTermsWithin}
-use Rattle.formula_meaning.specs.Members.{HasTwoMembers, HaveTwoMembers, AreTwo}
-use Rattle.standing_assumptions.proofs.FromPrenexForms.{bound_normal_form}
+use Rattle.formula_laws.specs.Within.{IsAtomWithin, AreTermsWithin}
+use Rattle.logic_meaning.specs.Members.{HasTwoMembers, HaveTwoMembers, AreTwo}
+use Rattle.prenex_forms.proofs.Finished.{bound_normal_form}
 use Rattle.session_state.specs.Keeping.{IsSessionFormula}
 use Rattle.session_state.proofs.NameLemmas.{place_below, variables_in_names}
 

@@ -6,25 +6,26 @@ use Rattle.std.specs.List.{AllByRecursion, IsDistinct}
 use Rattle.std.specs.declared.alloc.Global.{Global}
 use Rattle.std.specs.declared.vec.Vec.{Vec}
 use Rattle.std.specs.Map.{keys_of}
-use Rattle.formula_meaning.specs.Context.{Context}
-use Rattle.formula_meaning.specs.Every.{Every}
-use Rattle.formula_meaning.specs.Numbers.{IsAtomInLimit}
-use Rattle.formula_meaning.specs.Some.{EachOf}
-use Rattle.formula_meaning.specs.Tree.{Tree}
-use Rattle.atom_normal.specs.declared.atoms.Context.{Context as Theory}
-use Rattle.atom_normal.specs.Atoms.{context_of}
-use Rattle.qe_syntax.specs.Value.{same_name}
+use Rattle.logic_meaning.specs.Context.{Context}
+use Rattle.logic_meaning.specs.Every.{Every}
+use Rattle.logic_meaning.specs.Numbers.{IsAtomInLimit}
+use Rattle.logic_meaning.specs.Some.{EachOf}
+use Rattle.logic_meaning.specs.Tree.{Tree}
+use Rattle.normal_atoms.specs.declared.atoms.Context.{Context as Theory}
+use Rattle.normal_atoms.specs.Atoms.{context_of}
+use Rattle.language_meaning.specs.Value.{same_name}
 use Rattle.formula_tree.specs.declared.shape.Shape.{Shape}
 use Rattle.formula_tree.specs.Makers.{AreMade, Keeps}
 use Rattle.formula_resolving.proofs.PartLaws.{trees_stay, all_stay}
-use Rattle.resolved_formulas.specs.Resolving.{BoundTrees}
-use Rattle.standing_assumptions.specs.FromFormulaResolving.{Grows, AreIds, trees_bound}
+use Rattle.language_meaning.specs.Resolving.{BoundTrees}
+use Rattle.formula_resolving.specs.Numbering.{Grows}
+use Rattle.formula_resolving.specs.BoundIds.{AreIds, trees_bound}
 use Rattle.formula_store.specs.declared.id.FormulaId.{FormulaId}
 use Rattle.formula_store.specs.Nodes.{tree, IsId}
 use Rattle.session_state.specs.declared.state.SessionState.{SessionState}
-use Rattle.standing_assumptions.specs.FromSessionMeaning.{State, with_names, chosen, is_same_theory}
-use Rattle.standing_assumptions.specs.declared.assumption.Assumption.{Assumption}
-use Rattle.standing_assumptions.specs.Trees.{standing_trees}
+use Rattle.program_meaning.specs.State.{State, with_names, chosen, is_same_theory}
+use Rattle.session_state.specs.declared.assumption.Assumption.{Assumption}
+use Rattle.session_state.specs.Trees.{standing_trees}
 use Rattle.session_state.specs.Keeping.{state_of, ids_bound, IsSessionFormula, IsSound, HasIds, IsSessionState}
 use Rattle.session_state.specs.Growth.{KeepsState, GrowsState}
 use Rattle.session_state.proofs.BindingLemmas.{trees_kept, ids_kept, trees_by_parts, ids_by_list}

@@ -2,17 +2,17 @@
 use Rattle.std.proofs.Common.{ℕ, ◌<◌, List, [], ◌∷◌, ◌++◌, Bool, true, false, if◌then◌else◌, length, arith}
 use Rattle.std.proofs.lemmas.Bool.{false≢true}
 use Rattle.std.specs.List.{AllByRecursion, fold, list_any}
-use Rattle.formula_meaning.specs.Formula.{Yes, No, One, Not, And, Or, Impl, Repl, Equiv, Ex, All}
-use Rattle.formula_meaning.specs.Formula as plain
-use Rattle.formula_meaning.specs.Some.{EachOf}
-use Rattle.qe_syntax.specs.Names.{IsVariable}
-use Rattle.qe_syntax.specs.Trees.{TermTree, TermTrees, Number, Named, Sum, Product, Quotient, Power, Negative, none, also, WrittenAtom, Compare, Cong, Ncong, Bound, FormulaTree, FormulaTrees}
-use Rattle.qe_syntax.specs.Writable.{IsWritableTerm, AreWritableTerms, IsWritableAtom, IsWritableFormula, AreWritableFormulas}
-use Rattle.qe_syntax.specs.Value.{same_name}
-use Rattle.qe_syntax.proofs.WritableLemmas.{writable_formula}
+use Rattle.logic_meaning.specs.Formula.{Yes, No, One, Not, And, Or, Impl, Repl, Equiv, Ex, All}
+use Rattle.logic_meaning.specs.Formula as plain
+use Rattle.logic_meaning.specs.Some.{EachOf}
+use Rattle.language_meaning.specs.Names.{IsVariable}
+use Rattle.language_meaning.specs.Trees.{TermTree, TermTrees, Number, Named, Sum, Product, Quotient, Power, Negative, none, also, WrittenAtom, Compare, Cong, Ncong, Bound, FormulaTree, FormulaTrees}
+use Rattle.written_syntax.specs.Writable.{IsWritableTerm, AreWritableTerms, IsWritableAtom, IsWritableFormula, AreWritableFormulas}
+use Rattle.language_meaning.specs.Value.{same_name}
+use Rattle.written_syntax.proofs.WritableLemmas.{writable_formula}
 use Rattle.session_state.specs.Scripted.{IsScripted}
-use Rattle.formula_tree.specs.Names.{with_name}
-use Rattle.resolved_formulas.specs.Resolving.{variables_of, variables_in, atom_variables, formula_variables, all_variables}
+use Rattle.logic_meaning.specs.Names.{with_name}
+use Rattle.language_meaning.specs.Resolving.{variables_of, variables_in, atom_variables, formula_variables, all_variables}
 
 abbrev pub AllVariables : List (List ℕ) → Type 0
 AllVariables xs = AllByRecursion IsVariable xs

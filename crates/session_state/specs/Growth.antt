@@ -1,7 +1,7 @@
 -- What stays of a session's state while formulas are made.
 use Rattle.std.specs.Prelude.{◌≡◌}
 use Rattle.formula_tree.specs.Makers.{Keeps}
-use Rattle.standing_assumptions.specs.FromFormulaResolving.{Grows}
+use Rattle.formula_resolving.specs.Numbering.{Grows}
 use Rattle.formula_store.specs.Nodes.{tree, IsId}
 use Rattle.session_state.specs.declared.state.SessionState.{SessionState}
 

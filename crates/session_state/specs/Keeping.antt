@@ -2,24 +2,24 @@
 use Rattle.std.specs.Prelude.{◌≡◌, ℕ, List, Some, length, map}
 use Rattle.std.specs.List.{AllByRecursion, IsDistinct}
 use Rattle.std.specs.Map.{keys_of}
-use Rattle.formula_meaning.specs.Context.{Context}
-use Rattle.formula_meaning.specs.Every.{Every}
-use Rattle.formula_meaning.specs.Numbers.{IsAtomInLimit}
-use Rattle.formula_meaning.specs.Some.{EachOf}
-use Rattle.formula_meaning.specs.Tree.{Tree}
-use Rattle.atom_normal.specs.Atoms.{context_of}
-use Rattle.atom_normal.specs.NormalForm.{IsNormal}
-use Rattle.qe_syntax.specs.Names.{IsVariable}
-use Rattle.qe_syntax.specs.Value.{same_name}
-use Rattle.formula_tree.specs.Bindings.{bound_to}
-use Rattle.standing_assumptions.specs.FromFormulaResolving.{AreIds, trees_bound}
+use Rattle.logic_meaning.specs.Context.{Context}
+use Rattle.logic_meaning.specs.Every.{Every}
+use Rattle.logic_meaning.specs.Numbers.{IsAtomInLimit}
+use Rattle.logic_meaning.specs.Some.{EachOf}
+use Rattle.logic_meaning.specs.Tree.{Tree}
+use Rattle.normal_atoms.specs.Atoms.{context_of}
+use Rattle.logic_meaning.specs.NormalForm.{IsNormal}
+use Rattle.language_meaning.specs.Names.{IsVariable}
+use Rattle.language_meaning.specs.Value.{same_name}
+use Rattle.logic_meaning.specs.Bindings.{bound_to}
+use Rattle.formula_resolving.specs.BoundIds.{AreIds, trees_bound}
 use Rattle.formula_store.specs.declared.id.FormulaId.{FormulaId}
 use Rattle.formula_store.specs.Nodes.{tree, IsId}
-use Rattle.formula_meaning.specs.Within.{IsTreeWithin}
-use Rattle.formula_meaning.specs.Members.{HasTwoMembers}
+use Rattle.formula_laws.specs.Within.{IsTreeWithin}
+use Rattle.logic_meaning.specs.Members.{HasTwoMembers}
 use Rattle.session_state.specs.declared.state.SessionState.{SessionState}
-use Rattle.standing_assumptions.specs.FromSessionMeaning.{State}
-use Rattle.standing_assumptions.specs.Trees.{standing_trees}
+use Rattle.program_meaning.specs.State.{State}
+use Rattle.session_state.specs.Trees.{standing_trees}
 
 -- the ids of what is bound, in order
 abbrev pub ids_bound : List (List ℕ × FormulaId) → List FormulaId

@@ -1,8 +1,7 @@
 pub mod Keeping
 pub mod Growth
 pub mod Scripted
-pub mod FromAnswerTexts
-pub mod FromFormulaResolving
-pub mod FromPrenexForms
-pub mod FromSessionMeaning
-pub mod FromStandingAssumptions
+pub mod Trees
+pub mod Numbered
+pub mod FormulaGiven
+pub mod FromRedlogPrinter

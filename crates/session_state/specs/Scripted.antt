@@ -1,13 +1,13 @@
 -- Formulas as scripts have them, where the answers of the commands inside have names.
 use Rattle.std.specs.Prelude.{◌≤◌, length}
 use Rattle.std.specs.List.{AllByRecursion}
-use Rattle.qe_syntax.specs.declared.tree.Formula.{Formula}
-use Rattle.qe_syntax.specs.Holes.{command_count}
-use Rattle.qe_syntax.specs.CodeTrees.{named_tree, inner_of}
-use Rattle.qe_syntax.specs.Names.{IsVariable}
-use Rattle.qe_syntax.specs.Proper.{IsProperFormula}
-use Rattle.qe_syntax.specs.Trees.{FormulaTree}
-use Rattle.resolved_formulas.specs.Resolving.{formula_variables}
+use Rattle.written_syntax.specs.declared.tree.Formula.{Formula}
+use Rattle.language_meaning.specs.Holes.{command_count}
+use Rattle.written_syntax.specs.CodeTrees.{named_tree, inner_of}
+use Rattle.language_meaning.specs.Names.{IsVariable}
+use Rattle.written_syntax.specs.Proper.{IsProperFormula}
+use Rattle.language_meaning.specs.Trees.{FormulaTree}
+use Rattle.language_meaning.specs.Resolving.{formula_variables}
 use Rattle.session_state.specs.declared.state.SessionState.{SessionState}
 
 -- the formula is proper, and its variables are ones that a script can write

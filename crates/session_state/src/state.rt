@@ -2,14 +2,14 @@
 
 ghost use Rattle.std.specs.Prelude.{◌≡◌, [], OnOk, IfOk, length};
 ghost use Rattle.std.specs.Map.{keys_of};
-ghost use Rattle.atom_normal.specs.Atoms.{context_of};
+ghost use Rattle.normal_atoms.specs.Atoms.{context_of};
 ghost use Rattle.session_state.specs.Keeping.{state_of, IsSessionState, ids_bound};
-ghost use Rattle.standing_assumptions.specs.FromSessionMeaning.{first_state, chosen};
+ghost use Rattle.program_meaning.specs.State.{first_state, chosen};
 
-use atom_normal::Context;
+use crate::standing::Standing;
 use formula_store::{FormulaId, Store};
 use formula_tree::{Bindings, Names};
-use standing_assumptions::Standing;
+use normal_atoms::Context;
 use std::alloc::{AllocError, Global};
 
 /// So many formulas may be in the store before any is given up.

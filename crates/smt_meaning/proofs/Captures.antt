@@ -2,29 +2,29 @@
 use Rattle.std.proofs.Common.{◌≡◌, ◌⊎◌, inl, inr, ⊎_elim, ◌≤◌, ◌<◌, ◌+◌, ℕ, zero, suc, Bool, true, false, List, [], ◌∷◌, length, map, Some, None, refl, ap, sym, ◌∙◌, subst, arith, if◌then◌else◌}
 use Rattle.std.specs.Prelude.{option_map}
 use Rattle.std.specs.List.{AllByRecursion}
-use Rattle.formula_meaning.specs.Context.{Context, Fields, Integers}
-use Rattle.formula_meaning.specs.Every.{FreeInSome}
-use Rattle.formula_meaning.specs.Formula.{Equiv}
-use Rattle.formula_meaning.specs.declared.junction.Junction.{Junction}
-use Rattle.formula_meaning.specs.declared.junction.Junction.TheVariants.{Conjunction, Disjunction}
-use Rattle.formula_meaning.specs.declared.quantifier.Quantifier.{Quantifier}
-use Rattle.formula_meaning.specs.declared.quantifier.Quantifier.TheVariants.{Exists, ForAll}
-use Rattle.qe_syntax.specs.declared.tree.Literal.{Literal}
-use Rattle.qe_syntax.specs.declared.tree.Relation.{Relation}
-use Rattle.qe_syntax.specs.declared.tree.Relation.TheVariants as relation
-use Rattle.qe_syntax.specs.Trees as language
-use Rattle.qe_syntax.specs.Trees.{TermTree, FormulaTree, Negative, terms_of, formulas_of}
-use Rattle.qe_syntax.specs.FreeNames.{IsFree}
-use Rattle.qe_syntax.specs.Value.{same_name, HasName, HaveName, Mentions}
-use Rattle.smt_syntax.specs.declared.names.SortedName.{SortedName}
-use Rattle.smt_syntax.specs.declared.expression.Operator.{Operator}
-use Rattle.smt_syntax.specs.declared.expression.Operator.TheVariants as operator
-use Rattle.smt_syntax.specs.Trees.{ExpressionTree, ExpressionTrees, LocalTrees, True, False, Numeral, Decimal, Named, Apply, Divisible, Quantified, Let, none, also, no_local, also_local}
-use Rattle.smt_meaning.specs.Levels.{level, closed}
+use Rattle.logic_meaning.specs.Context.{Context, Fields, Integers}
+use Rattle.logic_meaning.specs.Every.{FreeInSome}
+use Rattle.logic_meaning.specs.Formula.{Equiv}
+use Rattle.logic_meaning.specs.declared.junction.Junction.{Junction}
+use Rattle.logic_meaning.specs.declared.junction.Junction.TheVariants.{Conjunction, Disjunction}
+use Rattle.logic_meaning.specs.declared.quantifier.Quantifier.{Quantifier}
+use Rattle.logic_meaning.specs.declared.quantifier.Quantifier.TheVariants.{Exists, ForAll}
+use Rattle.language_meaning.specs.declared.tree.Literal.{Literal}
+use Rattle.language_meaning.specs.declared.tree.Relation.{Relation}
+use Rattle.language_meaning.specs.declared.tree.Relation.TheVariants as relation
+use Rattle.language_meaning.specs.Trees as language
+use Rattle.language_meaning.specs.Trees.{TermTree, FormulaTree, Negative, terms_of, formulas_of}
+use Rattle.written_syntax.specs.FreeNames.{IsFree}
+use Rattle.language_meaning.specs.Value.{same_name, HasName, HaveName, Mentions}
+use Rattle.smt_language.specs.declared.names.SortedName.{SortedName}
+use Rattle.smt_language.specs.declared.expression.Operator.{Operator}
+use Rattle.smt_language.specs.declared.expression.Operator.TheVariants as operator
+use Rattle.smt_language.specs.Trees.{ExpressionTree, ExpressionTrees, LocalTrees, True, False, Numeral, Decimal, Named, Apply, Divisible, Quantified, Let, none, also, no_local, also_local}
+use Rattle.smt_language.specs.Levels.{level, closed}
 use Rattle.smt_meaning.specs.LevelsBelow.{IsLevelBelow}
-use Rattle.smt_meaning.specs.Shapes.{comparison, chained, joined_of, neighbours, pairs, implications}
-use Rattle.smt_meaning.specs.Operators.{Meaning, Term, Formula, Members, Terms, Formulas, as_terms, as_formulas, of_one_kind, of_terms, of_formulas, of_members}
-use Rattle.smt_meaning.specs.Meaning.{Scope, with_symbol, variable, opened, are_numbers, as_formula, as_term, decimal, divisible, and_then, meaning, meanings, local_scope}
+use Rattle.smt_language.specs.Shapes.{comparison, chained, joined_of, neighbours, pairs, implications}
+use Rattle.smt_language.specs.Operators.{Meaning, Term, Formula, Members, Terms, Formulas, as_terms, as_formulas, of_one_kind, of_terms, of_formulas, of_members}
+use Rattle.smt_language.specs.Meaning.{Scope, with_symbol, variable, opened, are_numbers, as_formula, as_term, decimal, divisible, and_then, meaning, meanings, local_scope}
 use Rattle.smt_meaning.specs.Atoms.{IsClosedBelow}
 use Rattle.smt_meaning.specs.Laws.{NothingIsCaptured}
 use Rattle.smt_meaning.proofs.Levels.{all_append}

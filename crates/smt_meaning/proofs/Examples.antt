@@ -1,22 +1,22 @@
 -- Meanings worked by hand. Each side is computed.
 use Rattle.std.proofs.Common.{◌≡◌, ℕ, List, [], ◌∷◌, refl, codes, true, false, Some, None}
 use Rattle.std.specs.Prelude.{pos, is_some}
-use Rattle.formula_meaning.specs.Context.{Context, Fields, Integers}
-use Rattle.formula_meaning.specs.Formula as plain
-use Rattle.formula_meaning.specs.declared.quantifier.Quantifier.TheVariants.{Exists, ForAll}
-use Rattle.qe_syntax.specs.declared.tree.Literal.{Literal}
-use Rattle.qe_syntax.specs.declared.tree.Literal.TheVariants.{Fits}
-use Rattle.qe_syntax.specs.declared.tree.Relation.TheVariants as relation
-use Rattle.qe_syntax.specs.Trees as language
-use Rattle.smt_syntax.specs.declared.names.SortedName.{SortedName}
-use Rattle.smt_syntax.specs.declared.expression.Operator.TheVariants as operator
-use Rattle.smt_syntax.specs.Trees.{ExpressionTree, LocalTree, True, False, Numeral, Decimal, Named, Apply, Divisible, Quantified, Let}
-use Rattle.smt_syntax.specs.TreeLists.{expressions_of, locals_of}
-use Rattle.smt_meaning.specs.Levels.{level}
-use Rattle.smt_meaning.specs.Operators.{Formula}
-use Rattle.smt_meaning.specs.Meaning.{meaning, declared_scope}
-use Rattle.smt_meaning.specs.Undeclared.{has_unknown}
-use Rattle.smt_meaning.specs.Nodes.{formula_nodes}
+use Rattle.logic_meaning.specs.Context.{Context, Fields, Integers}
+use Rattle.logic_meaning.specs.Formula as plain
+use Rattle.logic_meaning.specs.declared.quantifier.Quantifier.TheVariants.{Exists, ForAll}
+use Rattle.language_meaning.specs.declared.tree.Literal.{Literal}
+use Rattle.language_meaning.specs.declared.tree.Literal.TheVariants.{Fits}
+use Rattle.language_meaning.specs.declared.tree.Relation.TheVariants as relation
+use Rattle.language_meaning.specs.Trees as language
+use Rattle.smt_language.specs.declared.names.SortedName.{SortedName}
+use Rattle.smt_language.specs.declared.expression.Operator.TheVariants as operator
+use Rattle.smt_language.specs.Trees.{ExpressionTree, LocalTree, True, False, Numeral, Decimal, Named, Apply, Divisible, Quantified, Let}
+use Rattle.smt_tokens.specs.TreeLists.{expressions_of, locals_of}
+use Rattle.smt_language.specs.Levels.{level}
+use Rattle.smt_language.specs.Operators.{Formula}
+use Rattle.smt_language.specs.Meaning.{meaning, declared_scope}
+use Rattle.smt_language.specs.Undeclared.{has_unknown}
+use Rattle.smt_language.specs.Nodes.{formula_nodes}
 
 -- ---- what is written
 

@@ -2,24 +2,24 @@
 use Rattle.std.proofs.Common.{◌≡◌, ◌≤◌, ◌<◌, ◌+◌, ℕ, zero, suc, Bool, true, false, not, List, [], ◌∷◌, ◌++◌, length, map, refl, ap, sym, ◌∙◌, subst, arith, nat_eq, eqb-true, if◌then◌else◌}
 use Rattle.std.specs.Prelude.{◌||◌, ◌&&◌}
 use Rattle.std.specs.List.{AllByRecursion, list_any, fold}
-use Rattle.formula_meaning.specs.Context.{Context}
-use Rattle.formula_meaning.specs.Every.{EveryOf}
-use Rattle.formula_meaning.specs.Fold.{joined}
-use Rattle.formula_meaning.specs.declared.junction.Junction.{Junction}
-use Rattle.formula_meaning.specs.declared.junction.Junction.TheVariants.{Conjunction, Disjunction}
-use Rattle.formula_meaning.specs.declared.quantifier.Quantifier.{Quantifier}
-use Rattle.formula_meaning.specs.declared.quantifier.Quantifier.TheVariants.{Exists, ForAll}
-use Rattle.qe_syntax.specs.Trees.{TermTree, FormulaTree, Negative, terms_of, formulas_of}
-use Rattle.qe_syntax.specs.Value.{same_name}
-use Rattle.formula_tree.specs.Names.{with_name, place}
-use Rattle.resolved_formulas.specs.NamesAfter.{names_after}
-use Rattle.resolved_formulas.specs.Resolving.{variables_of, variables_in, formula_variables, all_variables}
+use Rattle.logic_meaning.specs.Context.{Context}
+use Rattle.logic_meaning.specs.Every.{EveryOf}
+use Rattle.logic_meaning.specs.Fold.{joined}
+use Rattle.logic_meaning.specs.declared.junction.Junction.{Junction}
+use Rattle.logic_meaning.specs.declared.junction.Junction.TheVariants.{Conjunction, Disjunction}
+use Rattle.logic_meaning.specs.declared.quantifier.Quantifier.{Quantifier}
+use Rattle.logic_meaning.specs.declared.quantifier.Quantifier.TheVariants.{Exists, ForAll}
+use Rattle.language_meaning.specs.Trees.{TermTree, FormulaTree, Negative, terms_of, formulas_of}
+use Rattle.language_meaning.specs.Value.{same_name}
+use Rattle.logic_meaning.specs.Names.{with_name, place}
+use Rattle.language_meaning.specs.NamesAfter.{names_after}
+use Rattle.language_meaning.specs.Resolving.{variables_of, variables_in, formula_variables, all_variables}
 use Rattle.resolved_formulas.proofs.PlaceLaws.{same_itself}
-use Rattle.smt_meaning.specs.Levels.{level, levels, levels_from, closed}
+use Rattle.smt_language.specs.Levels.{level, levels, levels_from, closed}
 use Rattle.smt_meaning.specs.LevelsBelow.{IsLevelBelow, AreLevelsBelow}
-use Rattle.smt_meaning.specs.Shapes.{joined_of, neighbours, pairs, implications}
-use Rattle.smt_meaning.specs.Operators.{Meaning, Term}
-use Rattle.smt_meaning.specs.Operators as operators
+use Rattle.smt_language.specs.Shapes.{joined_of, neighbours, pairs, implications}
+use Rattle.smt_language.specs.Operators.{Meaning, Term}
+use Rattle.smt_language.specs.Operators as operators
 use Rattle.smt_meaning.specs.Atoms.{IsOfTheory, IsFormulaBelow, IsBelow}
 
 -- ---- lists

@@ -3,29 +3,29 @@ use Rattle.std.proofs.Common.{◌≡◌, ◌≤◌, ◌<◌, ◌+◌, ℕ, suc, 
 use Rattle.std.specs.Prelude.{option_map, position}
 use Rattle.std.specs.List.{AllByRecursion}
 use Rattle.std.proofs.lemmas.List.Quantifiers.{position-Some}
-use Rattle.formula_meaning.specs.Context.{Context, Fields, Integers}
-use Rattle.formula_meaning.specs.Formula.{Equiv}
-use Rattle.formula_meaning.specs.declared.junction.Junction.TheVariants.{Conjunction, Disjunction}
-use Rattle.formula_meaning.specs.Every.{Every}
-use Rattle.qe_syntax.specs.declared.tree.Literal.{Literal}
-use Rattle.qe_syntax.specs.declared.tree.Relation.{Relation}
-use Rattle.qe_syntax.specs.declared.tree.Relation.TheVariants as relation
-use Rattle.qe_syntax.specs.Trees as language
-use Rattle.qe_syntax.specs.Trees.{TermTree, FormulaTree, Negative, terms_of}
-use Rattle.qe_syntax.specs.Value.{same_name}
-use Rattle.resolved_formulas.specs.Resolving.{variables_of, formula_variables}
-use Rattle.smt_syntax.specs.declared.names.SortedName.{SortedName}
-use Rattle.smt_syntax.specs.declared.expression.Operator.{Operator}
-use Rattle.smt_syntax.specs.declared.expression.Operator.TheVariants as operator
-use Rattle.smt_syntax.specs.Trees.{ExpressionTree, ExpressionTrees, LocalTrees, True, False, Numeral, Decimal, Named, Apply, Divisible, Quantified, Let, none, also, no_local, also_local}
-use Rattle.smt_meaning.specs.Levels.{closed}
+use Rattle.logic_meaning.specs.Context.{Context, Fields, Integers}
+use Rattle.logic_meaning.specs.Formula.{Equiv}
+use Rattle.logic_meaning.specs.declared.junction.Junction.TheVariants.{Conjunction, Disjunction}
+use Rattle.logic_meaning.specs.Every.{Every}
+use Rattle.language_meaning.specs.declared.tree.Literal.{Literal}
+use Rattle.language_meaning.specs.declared.tree.Relation.{Relation}
+use Rattle.language_meaning.specs.declared.tree.Relation.TheVariants as relation
+use Rattle.language_meaning.specs.Trees as language
+use Rattle.language_meaning.specs.Trees.{TermTree, FormulaTree, Negative, terms_of}
+use Rattle.language_meaning.specs.Value.{same_name}
+use Rattle.language_meaning.specs.Resolving.{variables_of, formula_variables}
+use Rattle.smt_language.specs.declared.names.SortedName.{SortedName}
+use Rattle.smt_language.specs.declared.expression.Operator.{Operator}
+use Rattle.smt_language.specs.declared.expression.Operator.TheVariants as operator
+use Rattle.smt_language.specs.Trees.{ExpressionTree, ExpressionTrees, LocalTrees, True, False, Numeral, Decimal, Named, Apply, Divisible, Quantified, Let, none, also, no_local, also_local}
+use Rattle.smt_language.specs.Levels.{closed}
 use Rattle.smt_meaning.specs.LevelsBelow.{IsLevelBelow, AreLevelsBelow}
-use Rattle.smt_meaning.specs.Shapes.{comparison, chained, neighbours, pairs, divides}
-use Rattle.smt_meaning.specs.Operators.{Meaning, Term, Formula, Members, Terms, Formulas, as_terms, as_formulas, of_one_kind, of_terms, of_formulas, of_members}
-use Rattle.smt_meaning.specs.Meaning.{Scope, with_symbol, variable, declared_scope, opened, are_numbers, as_formula, as_term, decimal, divisible, and_then, meaning, meanings, local_scope}
+use Rattle.smt_language.specs.Shapes.{comparison, chained, neighbours, pairs, divides}
+use Rattle.smt_language.specs.Operators.{Meaning, Term, Formula, Members, Terms, Formulas, as_terms, as_formulas, of_one_kind, of_terms, of_formulas, of_members}
+use Rattle.smt_language.specs.Meaning.{Scope, with_symbol, variable, declared_scope, opened, are_numbers, as_formula, as_term, decimal, divisible, and_then, meaning, meanings, local_scope}
 use Rattle.smt_meaning.specs.Proper.{IsPositive, IsProper, AreProper, AreProperLocals}
 use Rattle.smt_meaning.specs.Atoms.{IsOfTheory, IsFormulaBelow, IsBelow}
-use Rattle.smt_meaning.specs.QuantifiedNames.{quantified_names, all_quantified_names, local_quantified_names}
+use Rattle.smt_language.specs.QuantifiedNames.{quantified_names, all_quantified_names, local_quantified_names}
 use Rattle.smt_meaning.specs.Laws.{LevelsSuffice}
 use Rattle.smt_meaning.proofs.Levels.{all_append, all_weaker, joined_below, neighbours_below, pairs_below, implications_below, closed_below, terms_below, negatives_below, meaning_more}
 

@@ -1,13 +1,13 @@
 -- Which atoms and names stand in what an expression means.
 use Rattle.std.specs.Prelude.{ℕ, List}
-use Rattle.formula_meaning.specs.Context.{Context, Fields, Integers}
-use Rattle.formula_meaning.specs.Every.{Every}
-use Rattle.qe_syntax.specs.Trees.{TermTree, WrittenAtom, Compare, Cong, Ncong, Bound, Number, FormulaTree}
-use Rattle.qe_syntax.specs.FreeNames.{IsFree}
-use Rattle.qe_syntax.specs.Value.{HasName}
-use Rattle.resolved_formulas.specs.Resolving.{variables_of, formula_variables}
+use Rattle.logic_meaning.specs.Context.{Context, Fields, Integers}
+use Rattle.logic_meaning.specs.Every.{Every}
+use Rattle.language_meaning.specs.Trees.{TermTree, WrittenAtom, Compare, Cong, Ncong, Bound, Number, FormulaTree}
+use Rattle.written_syntax.specs.FreeNames.{IsFree}
+use Rattle.language_meaning.specs.Value.{HasName}
+use Rattle.language_meaning.specs.Resolving.{variables_of, formula_variables}
 use Rattle.smt_meaning.specs.LevelsBelow.{IsLevelBelow, AreLevelsBelow}
-use Rattle.smt_meaning.specs.Operators.{Meaning, Term, Formula}
+use Rattle.smt_language.specs.Operators.{Meaning, Term, Formula}
 use Rattle.smt_meaning.specs.Proper.{IsPositive}
 
 -- a number that divides

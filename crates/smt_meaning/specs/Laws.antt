@@ -1,11 +1,11 @@
 -- What is proved of meanings, as statements that the functions of this crate promise.
 use Rattle.std.specs.Prelude.{◌≡◌, ℕ, ◌+◌, List, Some, length}
-use Rattle.formula_meaning.specs.Context.{Context}
-use Rattle.smt_syntax.specs.Trees.{ExpressionTree}
+use Rattle.logic_meaning.specs.Context.{Context}
+use Rattle.smt_language.specs.Trees.{ExpressionTree}
 use Rattle.smt_meaning.specs.Atoms.{IsBelow, IsClosedBelow}
-use Rattle.smt_meaning.specs.QuantifiedNames.{quantified_names}
-use Rattle.smt_meaning.specs.Meaning.{Scope, meaning, declared_scope}
-use Rattle.smt_meaning.specs.Operators.{Meaning}
+use Rattle.smt_language.specs.QuantifiedNames.{quantified_names}
+use Rattle.smt_language.specs.Meaning.{Scope, meaning, declared_scope}
+use Rattle.smt_language.specs.Operators.{Meaning}
 use Rattle.smt_meaning.specs.Proper.{IsProper}
 
 -- each atom of what a proper expression means is of the theory, and no name is needed but those of the levels of the declared and

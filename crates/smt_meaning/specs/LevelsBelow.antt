@@ -1,7 +1,7 @@
 -- Names that are those of the levels below one.
 use Rattle.std.specs.Prelude.{◌≡◌, ◌<◌, ℕ, List}
 use Rattle.std.specs.List.{AllByRecursion}
-use Rattle.smt_meaning.specs.Levels.{level}
+use Rattle.smt_language.specs.Levels.{level}
 
 -- the name is that of a level below
 abbrev pub IsLevelBelow : ℕ → List ℕ → Type 0

@@ -1,11 +1,4 @@
-pub mod Levels
 pub mod LevelsBelow
-pub mod Shapes
-pub mod Operators
-pub mod Meaning
-pub mod Undeclared
-pub mod Nodes
 pub mod Proper
 pub mod Atoms
-pub mod QuantifiedNames
 pub mod Laws

@@ -1,10 +1,10 @@
 -- Expressions whose numbers are as a script can write them.
 use Rattle.std.specs.Prelude.{pos, ◌<ℤ◌}
 use Rattle.exact_numbers.specs.Limit.{InLimit}
-use Rattle.qe_syntax.specs.declared.tree.Literal.{Literal}
-use Rattle.qe_syntax.specs.declared.tree.Literal.TheVariants.{Fits, Past}
-use Rattle.qe_syntax.specs.Proper.{IsNumeral}
-use Rattle.smt_syntax.specs.Trees.{ExpressionTree, ExpressionTrees, LocalTrees, True, False, Numeral, Decimal, Named, Apply, Divisible, Quantified, Let, none, also, no_local, also_local}
+use Rattle.language_meaning.specs.declared.tree.Literal.{Literal}
+use Rattle.language_meaning.specs.declared.tree.Literal.TheVariants.{Fits, Past}
+use Rattle.written_syntax.specs.Proper.{IsNumeral}
+use Rattle.smt_language.specs.Trees.{ExpressionTree, ExpressionTrees, LocalTrees, True, False, Numeral, Decimal, Named, Apply, Divisible, Quantified, Let, none, also, no_local, also_local}
 
 -- a positive number within the limit, where it fits
 abbrev pub IsPositive : Literal → Type 0

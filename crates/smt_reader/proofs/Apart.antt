@@ -7,9 +7,9 @@ use Rattle.std.specs.BTreeMap.{is_at}
 use Rattle.std.proofs.lemmas.Map.Text.{is_eq-slice_cmp}
 use Rattle.std.proofs.Math.ListN.{drop_of_length-le}
 use Rattle.smt_reader.specs.declared.sexpr.SExpr.{SExpr}
-use Rattle.smt_reader.specs.SExprs.{SExprTrees, none, also}
+use Rattle.smt_language.specs.SExprs.{SExprTrees, none, also}
 use Rattle.smt_reader.specs.CodeTrees.{sexpr_tree, trees_of}
-use Rattle.smt_reader.specs.Bindings.{bound_name, is_name, binds, is_apart, bind_apart, are_bindings}
+use Rattle.smt_language.specs.Bindings.{bound_name, is_name, binds, is_apart, bind_apart, are_bindings}
 use Rattle.smt_reader.proofs.Lists.{next}
 
 -- this is one of the names

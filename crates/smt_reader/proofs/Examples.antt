@@ -2,25 +2,25 @@
 use Rattle.std.proofs.Common.{◌≡◌, ℕ, List, [], ◌∷◌, ◌++◌, true, false, refl, codes}
 use Rattle.std.specs.Prelude.{pos, Option, Some, None, replicate}
 use Rattle.std.specs.Option.{option_and_then}
-use Rattle.formula_meaning.specs.declared.quantifier.Quantifier.TheVariants as quantifier
-use Rattle.qe_syntax.specs.declared.tree.Literal.TheVariants.{Fits}
-use Rattle.smt_tokens.specs.declared.token.SmtLexeme.{SmtLexeme}
-use Rattle.smt_tokens.specs.declared.token.SmtToken.{SmtToken}
-use Rattle.smt_tokens.specs.declared.token.SmtToken.TheVariants as token
-use Rattle.smt_tokens.specs.Lexing.{front, symbol, simple, barred, in_bars, over, spaced, taken}
-use Rattle.smt_syntax.specs.declared.command.Sort.TheVariants as sort
-use Rattle.smt_syntax.specs.declared.expression.Operator.{Operator}
-use Rattle.smt_syntax.specs.declared.expression.Operator.TheVariants as operator
-use Rattle.smt_syntax.specs.declared.names.SortedName.{SortedName}
-use Rattle.smt_syntax.specs.Trees.{CommandTree, Choose, Ignored, Declare, Assert, Values, Exit, ExpressionTree, True, Numeral, Decimal, Named, Apply, Divisible, Quantified, Let, no_local, also_local}
-use Rattle.smt_syntax.specs.TreeLists.{expressions_of}
-use Rattle.smt_words.specs.Words.{word_of, logic_of}
-use Rattle.smt_words.specs.Faults.{has_bad, is_deep}
-use Rattle.smt_reader.specs.declared.sexpr.Leaf.TheVariants as leaf
-use Rattle.smt_reader.specs.SExprs.{One, none, also}
-use Rattle.smt_reader.specs.Commands.{command_of}
+use Rattle.logic_meaning.specs.declared.quantifier.Quantifier.TheVariants as quantifier
+use Rattle.language_meaning.specs.declared.tree.Literal.TheVariants.{Fits}
+use Rattle.smt_language.specs.declared.token.SmtLexeme.{SmtLexeme}
+use Rattle.smt_language.specs.declared.token.SmtToken.{SmtToken}
+use Rattle.smt_language.specs.declared.token.SmtToken.TheVariants as token
+use Rattle.smt_language.specs.Lexing.{front, symbol, simple, barred, in_bars, over, spaced, taken}
+use Rattle.smt_language.specs.declared.command.Sort.TheVariants as sort
+use Rattle.smt_language.specs.declared.expression.Operator.{Operator}
+use Rattle.smt_language.specs.declared.expression.Operator.TheVariants as operator
+use Rattle.smt_language.specs.declared.names.SortedName.{SortedName}
+use Rattle.smt_language.specs.Trees.{CommandTree, Choose, Ignored, Declare, Assert, Values, Exit, ExpressionTree, True, Numeral, Decimal, Named, Apply, Divisible, Quantified, Let, no_local, also_local}
+use Rattle.smt_tokens.specs.TreeLists.{expressions_of}
+use Rattle.smt_language.specs.Words.{word_of, logic_of}
+use Rattle.smt_language.specs.Faults.{has_bad, is_deep}
+use Rattle.smt_language.specs.declared.sexpr.Leaf.TheVariants as leaf
+use Rattle.smt_language.specs.SExprs.{One, none, also}
+use Rattle.smt_language.specs.ReadCommands.{command_of}
 use Rattle.smt_reader.specs.Grouping.{grouped}
-use Rattle.smt_reader.specs.Spells.{Spells}
+use Rattle.smt_language.specs.Spells.{Spells}
 use Rattle.smt_reader.proofs.Grouped.{inside}
 
 -- the command of these tokens

@@ -1,11 +1,11 @@
 -- What the tokens of an S-expression are put together to: that S-expression, and nothing else.
 use Rattle.std.proofs.Common.{◌≡◌, List, [], ◌∷◌, ◌++◌, sym, refl, ap, ◌∙◌, append_assoc}
 use Rattle.std.specs.Prelude.{Some}
-use Rattle.smt_tokens.specs.declared.token.SmtToken.{SmtToken}
-use Rattle.smt_tokens.specs.declared.token.SmtToken.TheVariants as token
-use Rattle.smt_reader.specs.declared.sexpr.Leaf.TheVariants as leaf
-use Rattle.smt_reader.specs.SExprs.{SExprTree, SExprTrees, One, Group, none, also, written, written_all}
-use Rattle.smt_reader.specs.SExprLists.{sexprs_of}
+use Rattle.smt_language.specs.declared.token.SmtToken.{SmtToken}
+use Rattle.smt_language.specs.declared.token.SmtToken.TheVariants as token
+use Rattle.smt_language.specs.declared.sexpr.Leaf.TheVariants as leaf
+use Rattle.smt_language.specs.SExprs.{SExprTree, SExprTrees, One, Group, none, also, written, written_all}
+use Rattle.smt_language.specs.SExprLists.{sexprs_of}
 use Rattle.smt_reader.specs.Grouping.{Open, grouped}
 use Rattle.smt_reader.proofs.Lists.{append_none}
 

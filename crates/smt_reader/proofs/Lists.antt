@@ -5,13 +5,13 @@ use Rattle.std.specs.Option.{option_map}
 use denote.Param.Weighed.{most}
 use Rattle.std.proofs.Math.ListN.{drop_of_length-le}
 use Rattle.std.proofs.Math.Seq.{drop-cons}
-use Rattle.smt_syntax.specs.Trees.{CommandTree}
+use Rattle.smt_language.specs.Trees.{CommandTree}
 use Rattle.smt_reader.specs.declared.sexpr.SExpr.{SExpr}
-use Rattle.smt_reader.specs.SExprs.{SExprTree}
+use Rattle.smt_language.specs.SExprs.{SExprTree}
 use Rattle.smt_reader.specs.CodeTrees.{sexpr_tree, trees_of}
-use Rattle.smt_reader.specs.Shapes.{one_of, two_of, count, put_before, each_of, is_none, is_void}
-use Rattle.smt_reader.specs.Commands.{constant_of, names_of, some_names, alone}
-use Rattle.smt_reader.specs.Expressions.{group_head}
+use Rattle.smt_language.specs.SpelledShapes.{one_of, two_of, count, put_before, each_of, is_none, is_void}
+use Rattle.smt_language.specs.ReadCommands.{constant_of, names_of, some_names, alone}
+use Rattle.smt_language.specs.Expressions.{group_head}
 
 pub one_list : {A : Type 0} (xs : List A) (a : A) → 1 ≤ length xs → length xs < 2 → a ≡ get_or xs 0 a → xs ≡ a ∷ []
 one_list [] a some few e = absurd (omega (arith, some))

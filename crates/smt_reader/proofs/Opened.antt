@@ -1,16 +1,16 @@
 -- Tokens without their places, and a leaf that is put.
 use Rattle.std.proofs.Common.{◌≡◌, List, [], ◌∷◌, ◌++◌, map, sym, ap, ◌∙◌}
 use Rattle.std.specs.Prelude.{Some, reverse}
-use Rattle.smt_tokens.specs.declared.token.SmtLexeme.{SmtLexeme}
-use Rattle.smt_tokens.specs.declared.token.SmtToken.{SmtToken}
-use Rattle.smt_tokens.specs.declared.token.SmtToken.TheVariants as token
-use Rattle.smt_reader.specs.declared.sexpr.Leaf.{Leaf}
+use Rattle.smt_language.specs.declared.token.SmtLexeme.{SmtLexeme}
+use Rattle.smt_language.specs.declared.token.SmtToken.{SmtToken}
+use Rattle.smt_language.specs.declared.token.SmtToken.TheVariants as token
+use Rattle.smt_language.specs.declared.sexpr.Leaf.{Leaf}
 use Rattle.smt_reader.specs.declared.sexpr.SExpr.{SExpr}
 use Rattle.smt_reader.specs.declared.sexpr.SExpr.TheVariants as sexpr
 use Rattle.smt_reader.specs.declared.grouping.OpenGroups.{OpenGroups}
-use Rattle.smt_reader.specs.SExprLists.{leaf_of}
+use Rattle.smt_language.specs.SExprLists.{leaf_of}
 use Rattle.smt_reader.specs.CodeTrees.{sexpr_tree}
-use Rattle.smt_words.specs.Faults.{kinds}
+use Rattle.smt_language.specs.Faults.{kinds}
 use Rattle.smt_reader.specs.Grouping.{Goes, leaf_put}
 use Rattle.smt_reader.specs.OpenGroups.{open_of, group_of}
 use Rattle.smt_reader.proofs.TreeEquations.{tree-Leaf}

@@ -2,23 +2,23 @@
 use Rattle.std.proofs.Common.{◌≡◌, ℕ, List, [], ◌∷◌, length, true, false, sym, refl, ap, ◌∙◌}
 use Rattle.std.specs.Prelude.{Option, Some, None, if◌then◌else◌}
 use Rattle.std.specs.Option.{option_map, option_and_then}
-use Rattle.formula_meaning.specs.declared.quantifier.Quantifier.{Quantifier}
-use Rattle.smt_syntax.specs.declared.expression.Operator.{Operator}
-use Rattle.smt_syntax.specs.declared.names.SortedName.{SortedName}
-use Rattle.smt_syntax.specs.Trees.{ExpressionTree, LocalTree, Apply, Quantified, Let}
-use Rattle.smt_syntax.specs.TreeLists.{expressions_of, locals_of}
+use Rattle.logic_meaning.specs.declared.quantifier.Quantifier.{Quantifier}
+use Rattle.smt_language.specs.declared.expression.Operator.{Operator}
+use Rattle.smt_language.specs.declared.names.SortedName.{SortedName}
+use Rattle.smt_language.specs.Trees.{ExpressionTree, LocalTree, Apply, Quantified, Let}
+use Rattle.smt_tokens.specs.TreeLists.{expressions_of, locals_of}
 use Rattle.smt_reader.specs.declared.refusal.Refusal.{Refusal}
 use Rattle.smt_reader.specs.declared.refusal.Refusal.TheVariants as refusal
-use Rattle.smt_reader.specs.declared.sexpr.Leaf.{Leaf}
+use Rattle.smt_language.specs.declared.sexpr.Leaf.{Leaf}
 use Rattle.smt_reader.specs.declared.sexpr.SExpr.{SExpr}
 use Rattle.smt_reader.specs.declared.sexpr.SExpr.TheVariants as sexpr
 use Rattle.smt_reader.specs.declared.sexpr.SExprs as codes
-use Rattle.smt_reader.specs.SExprs.{SExprTree, SExprTrees, One, Group, none, also}
+use Rattle.smt_language.specs.SExprs.{SExprTree, SExprTrees, One, Group, none, also}
 use Rattle.smt_reader.specs.CodeTrees.{sexpr_tree, trees_of}
-use Rattle.smt_reader.specs.Shapes.{name_at, group_at, count, put_before, each_of}
-use Rattle.smt_reader.specs.Bindings.{are_bindings, scope_of}
-use Rattle.smt_reader.specs.Expressions as reading
-use Rattle.smt_reader.specs.Expressions.{expression_of, members_of, single_of, body_of, values_of, local_at, takes, applied, quantified, local_of, local_named, bindings_of, are_apart, member_before, local_before}
+use Rattle.smt_language.specs.SpelledShapes.{name_at, group_at, count, put_before, each_of}
+use Rattle.smt_language.specs.Bindings.{are_bindings, scope_of}
+use Rattle.smt_language.specs.Expressions as reading
+use Rattle.smt_language.specs.Expressions.{expression_of, members_of, single_of, body_of, values_of, local_at, takes, applied, quantified, local_of, local_named, bindings_of, are_apart, member_before, local_before}
 use Rattle.smt_reader.specs.Refuses.{Refuses}
 use Rattle.smt_reader.proofs.TreeEquations.{tree-Leaf, tree-Group, trees-out}
 use Rattle.smt_reader.proofs.Lists.{no_two, count_is}

@@ -1,20 +1,20 @@
 -- Bytes spell one command at most, and what is not put together spells none.
 use Rattle.std.proofs.Common.{◌≡◌, ℕ, List, [], ◌∷◌, ap, sym, ◌∙◌, subst, false}
 use Rattle.std.specs.Prelude.{None}
-use Rattle.smt_tokens.specs.declared.token.SmtLexeme.{SmtLexeme}
-use Rattle.smt_tokens.specs.declared.token.SmtToken.{SmtToken}
-use Rattle.smt_tokens.specs.declared.token.SmtToken.TheVariants as token
+use Rattle.smt_language.specs.declared.token.SmtLexeme.{SmtLexeme}
+use Rattle.smt_language.specs.declared.token.SmtToken.{SmtToken}
+use Rattle.smt_language.specs.declared.token.SmtToken.TheVariants as token
 use Rattle.smt_tokens.proofs.Lexed.{same_lexemes}
-use Rattle.smt_syntax.specs.Trees.{CommandTree}
-use Rattle.smt_reader.specs.SExprs.{SExprTrees, Group, written}
-use Rattle.smt_reader.specs.Commands.{command_of}
+use Rattle.smt_language.specs.Trees.{CommandTree}
+use Rattle.smt_language.specs.SExprs.{SExprTrees, Group, written}
+use Rattle.smt_language.specs.ReadCommands.{command_of}
 use Rattle.smt_reader.specs.Grouping.{grouped}
-use Rattle.smt_tokens.specs.Lexing.{Lexes}
+use Rattle.smt_language.specs.Lexing.{Lexes}
 use Rattle.smt_reader.specs.declared.refusal.Refusal.{Refusal}
 use Rattle.smt_reader.specs.declared.refusal.Refusal.TheVariants as refusal
-use Rattle.smt_words.specs.Faults.{kinds, is_deep}
+use Rattle.smt_language.specs.Faults.{kinds, is_deep}
 use Rattle.smt_reader.specs.Refuses.{Refuses, cause_of}
-use Rattle.smt_reader.specs.Spells.{AreTokens, AreGood, IsUnread, Says, Spells}
+use Rattle.smt_language.specs.Spells.{AreTokens, AreGood, IsUnread, Says, Spells}
 use Rattle.smt_reader.proofs.Grouped.{inside, found, one_group}
 
 same_tokens : (bytes : List ℕ) (ts us : List SmtToken) → AreTokens bytes ts → AreTokens bytes us → ts ≡ us

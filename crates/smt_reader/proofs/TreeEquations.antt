@@ -3,13 +3,13 @@ use Rattle.std.proofs.Common.{◌≡◌, sym, ap, ◌∙◌}
 use Rattle.std.specs.Prelude.{map}
 use Rattle.std.specs.declared.alloc.Global.{Global}
 use Rattle.std.specs.declared.vec.Vec.{Vec}
-use Rattle.smt_reader.specs.declared.sexpr.Leaf.{Leaf}
+use Rattle.smt_language.specs.declared.sexpr.Leaf.{Leaf}
 use Rattle.smt_reader.specs.declared.sexpr.SExpr as code
 use Rattle.smt_reader.specs.declared.sexpr.SExpr.TheVariants as sexpr
 use Rattle.smt_reader.specs.declared.sexpr.SExpr.TheOpen as layer
 use Rattle.smt_reader.specs.declared.sexpr.SExprs as codes
-use Rattle.smt_reader.specs.SExprs.{One, Group}
-use Rattle.smt_reader.specs.SExprLists.{sexprs_of}
+use Rattle.smt_language.specs.SExprs.{One, Group}
+use Rattle.smt_language.specs.SExprLists.{sexprs_of}
 use Rattle.smt_reader.specs.CodeTrees.{sexpr_step, sexprs_step, sexpr_tree, sexpr_trees}
 
 pub tree-Leaf : (l : Leaf) → sexpr_tree (sexpr.Leaf l) ≡ One l

@@ -3,8 +3,8 @@ use Rattle.std.specs.Prelude.{List, map}
 use Rattle.smt_reader.specs.declared.sexpr.SExpr as code
 use Rattle.smt_reader.specs.declared.sexpr.SExpr.TheOpen as layer
 use Rattle.smt_reader.specs.declared.sexpr.SExprs as codes
-use Rattle.smt_reader.specs.SExprs.{SExprTree, SExprTrees, One, Group}
-use Rattle.smt_reader.specs.SExprLists.{sexprs_of}
+use Rattle.smt_language.specs.SExprs.{SExprTree, SExprTrees, One, Group}
+use Rattle.smt_language.specs.SExprLists.{sexprs_of}
 
 -- one layer of an S-expression, with the trees of its parts in their places
 abbrev pub sexpr_step : layer.SExpr-F SExprTree SExprTrees → SExprTree

@@ -1,10 +1,10 @@
 -- How tokens after an opening parenthesis are put together: what stands in the group that is open, and in those around it.
 use Rattle.std.specs.Prelude.{List, [], ◌∷◌, ◌++◌, Option, Some, None}
-use Rattle.smt_tokens.specs.declared.token.SmtToken.{SmtToken}
-use Rattle.smt_tokens.specs.declared.token.SmtToken.TheVariants as token
-use Rattle.smt_reader.specs.declared.sexpr.Leaf.{Leaf}
-use Rattle.smt_reader.specs.SExprs.{SExprTree, SExprTrees, One, Group}
-use Rattle.smt_reader.specs.SExprLists.{sexprs_of, leaf_of}
+use Rattle.smt_language.specs.declared.token.SmtToken.{SmtToken}
+use Rattle.smt_language.specs.declared.token.SmtToken.TheVariants as token
+use Rattle.smt_language.specs.declared.sexpr.Leaf.{Leaf}
+use Rattle.smt_language.specs.SExprs.{SExprTree, SExprTrees, One, Group}
+use Rattle.smt_language.specs.SExprLists.{sexprs_of, leaf_of}
 
 -- what is open: the members so far of the inmost group, and of those around it, the one first that is directly around
 pub record Open : Type 0 where

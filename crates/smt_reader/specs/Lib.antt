@@ -1,11 +1,4 @@
-pub mod SExprs
-pub mod SExprLists
 pub mod CodeTrees
-pub mod Shapes
-pub mod Bindings
-pub mod Expressions
-pub mod Commands
 pub mod Grouping
 pub mod OpenGroups
-pub mod Spells
 pub mod Refuses

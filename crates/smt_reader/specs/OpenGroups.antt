@@ -6,7 +6,7 @@ use Rattle.smt_reader.specs.declared.sexpr.SExpr.{SExpr}
 use Rattle.smt_reader.specs.declared.grouping.OpenGroups.{OpenGroups}
 use Rattle.smt_reader.specs.declared.grouping.Reached as code
 use Rattle.smt_reader.specs.declared.grouping.Reached.TheVariants as reached
-use Rattle.smt_reader.specs.SExprs.{SExprTree}
+use Rattle.smt_language.specs.SExprs.{SExprTree}
 use Rattle.smt_reader.specs.CodeTrees.{sexpr_tree, trees_of}
 use Rattle.smt_reader.specs.Grouping.{Open, Reached, Goes, Ends}
 

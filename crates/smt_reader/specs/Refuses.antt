@@ -1,6 +1,6 @@
 -- What the readers of the parts of a command promise each other.
-use Rattle.smt_reader.specs.declared.read.ReadError.{ReadError}
-use Rattle.smt_reader.specs.declared.read.ReadError.TheVariants as cause
+use Rattle.smt_language.specs.declared.read_error.ReadError.{ReadError}
+use Rattle.smt_language.specs.declared.read_error.ReadError.TheVariants as cause
 use Rattle.smt_reader.specs.declared.refusal.Refusal.{Refusal}
 use Rattle.smt_reader.specs.declared.refusal.Refusal.TheVariants as refusal
 

@@ -1,13 +1,14 @@
 ghost use Rattle.std.specs.Prelude.{◌≡◌, Some, None, map, IfOk, IfErr, OnOk, MatchOption};
 ghost use Rattle.smt_reader.specs.CodeTrees.{sexpr_tree, trees_of};
-ghost use Rattle.smt_reader.specs.Shapes.{two_of, each_of};
-ghost use Rattle.smt_reader.specs.Bindings.{binding_at, bound_name, bind_apart, are_bindings, sorted, sorted_name, scope_of};
+ghost use Rattle.smt_language.specs.SpelledShapes.{two_of, each_of};
+ghost use Rattle.smt_language.specs.Bindings.{binding_at, bound_name, bind_apart, are_bindings, sorted, sorted_name, scope_of};
 ghost use Rattle.smt_reader.specs.Refuses.{Refuses};
 
 use crate::refusal::Refusal;
 use crate::sexpr::SExpr;
-use qe_syntax::Name;
-use smt_syntax::{SortedName, SortedNames};
+use logic_meaning::Name;
+use smt_language::SortedName;
+use smt_tokens::SortedNames;
 use std::alloc::{AllocError, Global};
 use std::collections::BTreeSet;
 

@@ -1,21 +1,21 @@
 ghost use Rattle.std.specs.Prelude.{◌≡◌, Some, None, map, IfOk, IfErr, MatchOption};
 ghost use Rattle.std.specs.Option.{option_map, option_and_then};
-ghost use Rattle.smt_syntax.specs.Trees.{Choose, Declare, Assert, Values};
-ghost use Rattle.smt_syntax.specs.CodeTrees.{command_tree};
+ghost use Rattle.smt_language.specs.Trees.{Choose, Declare, Assert, Values};
+ghost use Rattle.smt_tokens.specs.CodeTrees.{command_tree};
 ghost use Rattle.smt_reader.specs.CodeTrees.{sexpr_tree, trees_of};
-ghost use Rattle.smt_reader.specs.Shapes.{one_of, two_of};
-ghost use Rattle.smt_reader.specs.Bindings.{sorted};
-ghost use Rattle.smt_reader.specs.Expressions.{expression_of};
-ghost use Rattle.smt_reader.specs.Commands.{command_of, commanded, constant_of, logic_at, asked_at, names_of, some_names, alone};
+ghost use Rattle.smt_language.specs.SpelledShapes.{one_of, two_of};
+ghost use Rattle.smt_language.specs.Bindings.{sorted};
+ghost use Rattle.smt_language.specs.Expressions.{expression_of};
+ghost use Rattle.smt_language.specs.ReadCommands.{command_of, commanded, constant_of, logic_at, asked_at, names_of, some_names, alone};
 ghost use Rattle.smt_reader.specs.Refuses.{Refuses};
 
 use crate::binding::{sorted, two};
 use crate::expression::expression;
 use crate::refusal::Refusal;
 use crate::sexpr::SExpr;
-use qe_syntax::Name;
-use smt_syntax::{Names, SmtCommand, Sort};
-use smt_words::{Word, logic_of};
+use logic_meaning::Name;
+use smt_language::{Sort, Word};
+use smt_tokens::{Names, SmtCommand, logic_of};
 use std::alloc::Global;
 
 /// The command that these are between two parentheses.

@@ -1,24 +1,24 @@
 ghost use Rattle.std.specs.Prelude.{◌≡◌, Some, None, map, IfOk, IfErr, OnOk, MatchOption};
-ghost use Rattle.smt_syntax.specs.Trees.{Divisible};
-ghost use Rattle.smt_syntax.specs.CodeTrees.{expression_tree, local_tree};
+ghost use Rattle.smt_language.specs.Trees.{Divisible};
+ghost use Rattle.smt_tokens.specs.CodeTrees.{expression_tree, local_tree};
 ghost use Rattle.smt_reader.specs.CodeTrees.{sexpr_tree, trees_of};
-ghost use Rattle.smt_reader.specs.Shapes.{count, each_of};
-ghost use Rattle.smt_reader.specs.Bindings.{scope_of};
-ghost use Rattle.smt_reader.specs.Expressions.{expression_of, group_of, symbol_expression, members_of, single_of, body_of, values_of, local_at, leaf_expression, applied, quantified, local_of, bindings_of, are_apart};
+ghost use Rattle.smt_language.specs.SpelledShapes.{count, each_of};
+ghost use Rattle.smt_language.specs.Bindings.{scope_of};
+ghost use Rattle.smt_language.specs.Expressions.{expression_of, group_of, symbol_expression, members_of, single_of, body_of, values_of, local_at, leaf_expression, applied, quantified, local_of, bindings_of, are_apart};
 ghost use Rattle.std.specs.Option.{option_map, option_and_then};
-ghost use Rattle.smt_words.specs.Words.{word_of};
+ghost use Rattle.smt_language.specs.Words.{word_of};
 ghost use Rattle.smt_reader.specs.Refuses.{Refuses};
 
 use crate::binding::{are_bindings, scope};
-use crate::head::{Head, head_of, takes};
+use crate::head::{head_of, takes};
 use crate::refusal::Refusal;
-use crate::sexpr::{Leaf, SExpr};
-use qe_syntax::{Literal, Name};
-use smt_syntax::{
-    Expression, Expressions, LocalValue, LocalValues, Operator, Quantifier, divisible, local,
-    quantified,
+use crate::sexpr::SExpr;
+use language_meaning::Literal;
+use logic_meaning::{Name, Quantifier};
+use smt_language::{Head, Leaf, Operator, Word};
+use smt_tokens::{
+    Expression, Expressions, LocalValue, LocalValues, divisible, local, quantified, word_of,
 };
-use smt_words::{Word, word_of};
 use std::alloc::Global;
 
 /// The term or formula that an S-expression is. It calls itself for what stands inside, which is at most 512 deep.
@@ -35,7 +35,7 @@ pub fn expression(alloc: Global, sexpr: &SExpr) -> Result<Expression, Refusal>
 }
 
 /// The term or formula that is a leaf.
-#[tactic(auto, using(smt_syntax::proofs::TreeEquations::trees))]
+#[tactic(auto, using(smt_tokens::proofs::TreeEquations::trees))]
 fn leaf_expression(leaf: &Leaf) -> Result<Expression, Refusal>
     ensures read { IfOk result (λ e. leaf_expression leaf.now ≡ Some (expression_tree e)) }
     ensures refused { IfErr result (λ e. Refuses e (leaf_expression leaf.now ≡ None)) }
@@ -49,7 +49,7 @@ fn leaf_expression(leaf: &Leaf) -> Result<Expression, Refusal>
 }
 
 /// The term or formula that is a symbol.
-#[tactic(auto, using(smt_syntax::proofs::TreeEquations::trees))]
+#[tactic(auto, using(smt_tokens::proofs::TreeEquations::trees))]
 fn symbol_expression(symbol: Name) -> Result<Expression, Refusal>
     ensures read { IfOk result (λ e. symbol_expression symbol (word_of symbol) ≡ Some (expression_tree e)) }
     ensures refused { IfErr result (λ e. Refuses e (symbol_expression symbol (word_of symbol) ≡ None)) }
@@ -81,7 +81,7 @@ fn group(alloc: Global, parts: &[SExpr]) -> Result<Expression, Refusal>
 }
 
 /// The operator with these members.
-#[tactic(auto, using(smt_syntax::proofs::TreeEquations::trees))]
+#[tactic(auto, using(smt_tokens::proofs::TreeEquations::trees))]
 #[cycle(expression)]
 fn apply(alloc: Global, operator: Operator, parts: &[SExpr]) -> Result<Expression, Refusal>
     ensures read { IfOk result (λ e. applied operator (count (trees_of parts.now)) (members_of (trees_of parts.now)) ≡ Some (expression_tree e)) }
@@ -177,7 +177,7 @@ fn locals(alloc: Global, bindings: &[SExpr]) -> Result<Vec<LocalValue>, Refusal>
 }
 
 /// What a binding of a `let` says.
-#[tactic(auto, using(crate::proofs::TreeEquations::trees, smt_syntax::proofs::TreeEquations::trees))]
+#[tactic(auto, using(crate::proofs::TreeEquations::trees, smt_tokens::proofs::TreeEquations::trees))]
 #[cycle(expression)]
 fn local_value(alloc: Global, binding: &SExpr) -> Result<LocalValue, Refusal>
     ensures read { IfOk result (λ l. local_at (sexpr_tree binding.now) ≡ Some (local_tree l)) }

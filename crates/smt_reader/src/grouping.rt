@@ -1,16 +1,16 @@
 ghost use Rattle.std.specs.Prelude.{◌≡◌, List, Some, None, [], ◌∷◌, map, reverse, IfOk, IfErr, OnOk};
-ghost use Rattle.smt_tokens.specs.declared.token.SmtToken.TheVariants.{Open};
-ghost use Rattle.smt_reader.specs.SExprs.{SExprTrees, Group, written};
-ghost use Rattle.smt_reader.specs.SExprLists.{leaf_of};
+ghost use Rattle.smt_language.specs.declared.token.SmtToken.TheVariants.{Open};
+ghost use Rattle.smt_language.specs.SExprs.{SExprTrees, Group, written};
+ghost use Rattle.smt_language.specs.SExprLists.{leaf_of};
 ghost use Rattle.smt_reader.specs.CodeTrees.{sexpr_tree, trees_of};
 ghost use Rattle.smt_reader.specs.Grouping.{grouped, step, put, opened, closed, leaf_put, Fails};
 ghost use Rattle.smt_reader.specs.OpenGroups.{open_of, reached_of};
-ghost use Rattle.smt_words.specs.Faults.{kinds};
+ghost use Rattle.smt_language.specs.Faults.{kinds};
 ghost use Rattle.smt_reader.specs.Refuses.{Refuses};
 
 use crate::refusal::Refusal;
-use crate::sexpr::{Leaf, SExpr};
-use smt_tokens::{SmtLexeme, SmtToken};
+use crate::sexpr::SExpr;
+use smt_language::{Leaf, SmtLexeme, SmtToken};
 use std::alloc::{AllocError, Global};
 
 /// What is open: the members so far of the inmost group, and of those around it, the one last that is directly around.

@@ -1,20 +1,11 @@
 ghost use Rattle.std.specs.Prelude.{◌≡◌};
 ghost use Rattle.smt_reader.specs.CodeTrees.{sexpr_tree, trees_of};
-ghost use Rattle.smt_reader.specs.Expressions.{takes, word_head, divisor_head, group_head, head_of};
+ghost use Rattle.smt_language.specs.Expressions.{takes, word_head, divisor_head, group_head, head_of};
 
 use crate::sexpr::SExpr;
-use qe_syntax::Literal;
-use smt_syntax::{Operator, Quantifier};
-use smt_words::Word;
-
-/// What stands at the front of the members of a term or a formula.
-#[derive(Clone, Copy)]
-pub enum Head {
-    Operator(Operator),
-    Divisible(Literal),
-    Quantifier(Quantifier),
-    Let,
-}
+use language_meaning::Literal;
+use logic_meaning::Quantifier;
+use smt_language::{Head, Operator, Word};
 
 /// What the S-expression is at the front of others.
 #[tactic(auto, using(crate::proofs::TreeEquations::trees))]

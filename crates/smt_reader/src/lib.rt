@@ -10,4 +10,4 @@ mod read;
 mod refusal;
 mod sexpr;
 
-pub use read::{ReadError, one_command, read_command};
+pub use read::{one_command, read_command};

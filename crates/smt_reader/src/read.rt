@@ -1,40 +1,18 @@
 ghost use Rattle.std.specs.Prelude.{◌≡◌, ℕ, List, IfOk, IfErr};
-ghost use Rattle.smt_syntax.specs.Trees.{CommandTree};
-ghost use Rattle.smt_syntax.specs.CodeTrees.{command_tree};
-ghost use Rattle.smt_words.specs.Faults.{kinds};
-ghost use Rattle.smt_reader.specs.Spells.{Spells, Says, IsUnread};
+ghost use Rattle.smt_language.specs.Trees.{CommandTree};
+ghost use Rattle.smt_tokens.specs.CodeTrees.{command_tree};
+ghost use Rattle.smt_language.specs.Faults.{kinds};
+ghost use Rattle.smt_language.specs.Spells.{Spells, Says, IsUnread};
 ghost use Rattle.smt_reader.specs.Refuses.{Refuses, cause_of};
-ghost use Rattle.smt_reader.specs.declared.read.ReadError.TheVariants.{Memory};
+ghost use Rattle.smt_language.specs.declared.read_error.ReadError.TheVariants.{Memory};
 
 use crate::command::command;
 use crate::grouping::members;
 use crate::refusal::Refusal;
-use smt_syntax::SmtCommand;
-use smt_tokens::{SmtLexeme, lexemes};
-use smt_words::{has_bad, is_deep};
+use smt_language::{ReadError, SmtLexeme};
+use smt_tokens::{SmtCommand, has_bad, is_deep, lexemes};
 use std::alloc::{AllocError, Global};
 use thiserror::Error;
-
-/// Why bytes are read as no command.
-#[derive(Clone, Copy, Debug, PartialEq, Eq, Error)]
-pub enum ReadError {
-    #[error("lexical")]
-    Lexical,
-    #[error("nesting")]
-    Nesting,
-    #[error("syntax")]
-    Syntax,
-    #[error("out of memory")]
-    Memory,
-}
-
-impl From<AllocError> for ReadError {
-    ghost from_gives = { λ _ e. e ≡ Memory };
-
-    fn from(_error: AllocError) -> ReadError {
-        ReadError::Memory
-    }
-}
 
 impl From<Refusal> for ReadError {
     ghost from_gives = { λ r e. e ≡ cause_of r };

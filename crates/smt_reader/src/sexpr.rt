@@ -1,24 +1,13 @@
 ghost use Rattle.std.specs.Prelude.{◌≡◌, map};
-ghost use Rattle.smt_reader.specs.SExprs.{SExprTree, Group};
-ghost use Rattle.smt_reader.specs.SExprLists.{sexprs_of, leaf_of};
+ghost use Rattle.smt_language.specs.SExprs.{SExprTree, Group};
+ghost use Rattle.smt_language.specs.SExprLists.{sexprs_of, leaf_of};
 ghost use Rattle.smt_reader.specs.CodeTrees.{sexpr_tree, sexpr_trees, trees_of};
-ghost use Rattle.smt_reader.specs.Shapes.{symbol_in, numeral_in, symbol_at, word_at, name_at, numeral_at, is_void};
+ghost use Rattle.smt_language.specs.SpelledShapes.{symbol_in, numeral_in, symbol_at, word_at, name_at, numeral_at, is_void};
 
-use qe_syntax::{Literal, Name};
-use smt_tokens::SmtToken;
-use smt_words::{Word, word_of};
-
-/// A token that is no parenthesis and is not bad.
-#[derive(Clone, Copy)]
-pub enum Leaf {
-    Numeral(Literal),
-    Decimal(Literal, Literal),
-    Symbol(Name),
-    /// A symbol of no byte or of more than 64.
-    Unfit,
-    Text,
-    Keyword,
-}
+use language_meaning::Literal;
+use logic_meaning::Name;
+use smt_language::{Leaf, SmtToken, Word};
+use smt_tokens::word_of;
 
 /// An S-expression. No more than 512 stand inside one another.
 #[derive(Drop)]
@@ -34,43 +23,6 @@ pub enum SExpr {
 #[cycle(sexpr)]
 pub struct SExprs {
     pub(crate) list: Vec<SExpr>,
-}
-
-impl Leaf {
-    /// The leaf that a token is, where it is one.
-    pub fn of(token: SmtToken) -> Option<Leaf>
-        ensures { result ≡ leaf_of token }
-    {
-        match token {
-            SmtToken::Numeral(number) => Some(Leaf::Numeral(number)),
-            SmtToken::Decimal(digits, power) => Some(Leaf::Decimal(digits, power)),
-            SmtToken::Symbol(name) => Some(Leaf::Symbol(name)),
-            SmtToken::Unfit => Some(Leaf::Unfit),
-            SmtToken::Text => Some(Leaf::Text),
-            SmtToken::Keyword => Some(Leaf::Keyword),
-            SmtToken::Open | SmtToken::Close | SmtToken::Bad => None,
-        }
-    }
-
-    /// The text of a symbol.
-    fn symbol(&self) -> Option<Name>
-        ensures { result ≡ symbol_in self.now }
-    {
-        match self {
-            Leaf::Symbol(name) => Some(*name),
-            _ => None,
-        }
-    }
-
-    /// The number of a numeral.
-    fn numeral(&self) -> Option<Literal>
-        ensures { result ≡ numeral_in self.now }
-    {
-        match self {
-            Leaf::Numeral(number) => Some(*number),
-            _ => None,
-        }
-    }
 }
 
 impl SExpr {

@@ -3,9 +3,9 @@ use Rattle.std.proofs.Common.{◌≡◌, ℕ, suc, ◌+◌, ◌-◌, ◌<◌, tr
 use Rattle.std.specs.Prelude.{Option, None}
 use Rattle.smt_tokens.specs.declared.step.Begun.{Begun}
 use Rattle.smt_tokens.specs.declared.step.Begun.TheVariants as begun
-use Rattle.smt_tokens.specs.declared.token.SmtCut.{SmtCut}
-use Rattle.smt_tokens.specs.declared.token.SmtLexeme.{SmtLexeme}
-use Rattle.smt_tokens.specs.Commands.{is_open, is_close, never, here, closed, opened, inside, over, stops, goes, Cuts, none, group, loose}
+use Rattle.smt_language.specs.declared.token.SmtCut.{SmtCut}
+use Rattle.smt_language.specs.declared.token.SmtLexeme.{SmtLexeme}
+use Rattle.smt_language.specs.Commands.{is_open, is_close, never, here, closed, opened, inside, over, stops, goes, Cuts, none, group, loose}
 use Rattle.smt_tokens.specs.Begun.{GoesOn, listed, outside, in_run, in_group}
 
 pub group_begins : (total : ℕ) (t : SmtLexeme) (ts : List SmtLexeme) (cs : List SmtCut) → is_open t.token ≡ true → GoesOn total (begun.Group t.start 0) ts cs → Cuts total (t ∷ ts) cs

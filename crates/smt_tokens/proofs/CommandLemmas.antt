@@ -1,10 +1,10 @@
 -- Each script is cut into commands in one way.
 use Rattle.std.proofs.Common.{◌≡◌, ℕ, zero, suc, Bool, true, false, List, [], ◌∷◌, length, sym, refl, ◌∙◌, subst}
-use Rattle.smt_tokens.specs.declared.token.SmtCut.{SmtCut}
-use Rattle.smt_tokens.specs.declared.token.SmtLexeme.{SmtLexeme}
-use Rattle.smt_tokens.specs.declared.token.SmtToken.{SmtToken}
-use Rattle.smt_tokens.specs.declared.token.SmtToken.TheVariants as token
-use Rattle.smt_tokens.specs.Commands.{is_open, is_close, Closes, never, here, closed, opened, inside, Runs, over, stops, goes, Cuts, none, group, loose, AreCommands}
+use Rattle.smt_language.specs.declared.token.SmtCut.{SmtCut}
+use Rattle.smt_language.specs.declared.token.SmtLexeme.{SmtLexeme}
+use Rattle.smt_language.specs.declared.token.SmtToken.{SmtToken}
+use Rattle.smt_language.specs.declared.token.SmtToken.TheVariants as token
+use Rattle.smt_language.specs.Commands.{is_open, is_close, Closes, never, here, closed, opened, inside, Runs, over, stops, goes, Cuts, none, group, loose, AreCommands}
 use Rattle.smt_tokens.proofs.Lexed.{lexed, same_lexemes}
 
 apart : {b : Bool} → b ≡ true → b ≡ false → ⊥

@@ -1,15 +1,15 @@
 -- Worked examples of the definitions. Each side is computed.
 use Rattle.std.proofs.Common.{◌≡◌, ℕ, [], ◌∷◌, refl, codes}
 use Rattle.std.specs.Prelude.{pos, List, replicate}
-use Rattle.qe_syntax.specs.declared.tree.Literal.TheVariants.{Fits, Past}
-use Rattle.redlog_tokens.specs.Lexing.{literal_of}
-use Rattle.smt_tokens.specs.declared.lexer.Front.{Front}
-use Rattle.smt_tokens.specs.declared.lexer.Front.TheVariants as found
-use Rattle.smt_tokens.specs.declared.token.SmtLexeme.{SmtLexeme}
-use Rattle.smt_tokens.specs.declared.token.SmtToken.{SmtToken}
-use Rattle.smt_tokens.specs.declared.token.SmtToken.TheVariants as token
-use Rattle.smt_tokens.specs.Lexing.{front, numbered, number, quoted, barred, in_bars, symbol, simple, keyword, Lexes, over, spaced, taken}
-use Rattle.smt_tokens.specs.Commands.{never, here, closed, opened, inside, stops, goes, none, group, loose, AreCommands}
+use Rattle.language_meaning.specs.declared.tree.Literal.TheVariants.{Fits, Past}
+use Rattle.language_meaning.specs.Lexing.{literal_of}
+use Rattle.smt_language.specs.declared.lexer.Front.{Front}
+use Rattle.smt_language.specs.declared.lexer.Front.TheVariants as found
+use Rattle.smt_language.specs.declared.token.SmtLexeme.{SmtLexeme}
+use Rattle.smt_language.specs.declared.token.SmtToken.{SmtToken}
+use Rattle.smt_language.specs.declared.token.SmtToken.TheVariants as token
+use Rattle.smt_language.specs.Lexing.{front, numbered, number, quoted, barred, in_bars, symbol, simple, keyword, Lexes, over, spaced, taken}
+use Rattle.smt_language.specs.Commands.{never, here, closed, opened, inside, stops, goes, none, group, loose, AreCommands}
 
 -- what stands at the front of a text
 abbrev front_of : List ℕ → Front

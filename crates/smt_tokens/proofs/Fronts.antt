@@ -3,10 +3,10 @@ use Rattle.std.proofs.Common.{◌≡◌, ℕ, suc, ◌+◌, ◌<◌, Bool, true,
 use Rattle.std.specs.Prelude.{Option, Some, None, ◌==◌, cond, nat_lt, if◌then◌else◌}
 use Rattle.std.specs.List.{prefix_len}
 use Rattle.std.proofs.lemmas.Bool.{ltb-true}
-use Rattle.qe_syntax.specs.Names.{is_digit}
-use Rattle.redlog_tokens.specs.Lexing.{is_blank}
-use Rattle.smt_tokens.specs.declared.lexer.Front.{Front}
-use Rattle.smt_tokens.specs.Lexing.{is_in_bars, symbol_length, fraction_length, closing_quote, closed_at, quoted, barred, keyword, simple, numbered_by, numbered, front}
+use Rattle.language_meaning.specs.Names.{is_digit}
+use Rattle.language_meaning.specs.Lexing.{is_blank}
+use Rattle.smt_language.specs.declared.lexer.Front.{Front}
+use Rattle.smt_language.specs.Lexing.{is_in_bars, symbol_length, fraction_length, closing_quote, closed_at, quoted, barred, keyword, simple, numbered_by, numbered, front}
 use Rattle.smt_tokens.specs.Fronts.{size}
 
 pub either : (P : Front → Type 0) (p : Bool) (f g : Front) → (p ≡ true → P f) → (p ≡ false → P g) → P (if p then f else g)

@@ -1,10 +1,10 @@
 -- Each list of bytes spells exactly one list of tokens, bad ones among them.
 use Rattle.std.proofs.Common.{◌≡◌, ℕ, zero, suc, ◌+◌, ◌≤◌, List, [], ◌∷◌, length, drop, sym, refl, ap, ◌∙◌, subst, arith, length-drop}
-use Rattle.smt_tokens.specs.declared.lexer.Front.{Front}
-use Rattle.smt_tokens.specs.declared.lexer.Front.TheVariants as found
-use Rattle.smt_tokens.specs.declared.token.SmtLexeme.{SmtLexeme}
-use Rattle.smt_tokens.specs.declared.token.SmtToken.{SmtToken}
-use Rattle.smt_tokens.specs.Lexing.{front, Lexes, over, spaced, taken}
+use Rattle.smt_language.specs.declared.lexer.Front.{Front}
+use Rattle.smt_language.specs.declared.lexer.Front.TheVariants as found
+use Rattle.smt_language.specs.declared.token.SmtLexeme.{SmtLexeme}
+use Rattle.smt_language.specs.declared.token.SmtToken.{SmtToken}
+use Rattle.smt_language.specs.Lexing.{front, Lexes, over, spaced, taken}
 use Rattle.smt_tokens.specs.Fronts.{size}
 use Rattle.smt_tokens.proofs.Fronts.{front_size}
 

@@ -8,3 +8,5 @@ pub mod Texts
 pub mod CommandLemmas
 pub mod Begun
 pub mod Examples
+pub mod BadTokens
+pub mod TreeEquations

@@ -2,12 +2,12 @@
 use Rattle.std.proofs.Common.{◌≡◌, ℕ, suc, ◌+◌, ◌<◌, ◌≤◌, Bool, true, false, List, [], ◌∷◌, ◌++◌, length, drop, sym, refl, ap, ◌∙◌, subst, inl, inr, arith, drop-drop, length-append, append_assoc, codes}
 use Rattle.std.specs.Prelude.{cond, not, ◌&&◌, ◌||◌, ◌==◌, ◌⊎◌, Option, Some, None, nat_lt, if◌then◌else◌}
 use Rattle.std.specs.List.{prefix_len, list_all, list_any}
-use Rattle.qe_syntax.specs.Names.{is_digit, is_letter}
+use Rattle.language_meaning.specs.Names.{is_digit, is_letter}
 use Rattle.redlog_tokens.proofs.Longest.{both, one_of}
-use Rattle.smt_tokens.specs.declared.lexer.Front.{Front}
-use Rattle.smt_tokens.specs.declared.lexer.Front.TheVariants as found
-use Rattle.smt_tokens.specs.declared.token.SmtLexeme.{SmtLexeme}
-use Rattle.smt_tokens.specs.Lexing.{is_symbol_part, is_in_bars, symbol_length, fraction_length, closing_quote, closed_at, quoted, barred, keyword, simple, numbered_by, numbered, front, Lexes, over, spaced, taken}
+use Rattle.smt_language.specs.declared.lexer.Front.{Front}
+use Rattle.smt_language.specs.declared.lexer.Front.TheVariants as found
+use Rattle.smt_language.specs.declared.token.SmtLexeme.{SmtLexeme}
+use Rattle.smt_language.specs.Lexing.{is_symbol_part, is_in_bars, symbol_length, fraction_length, closing_quote, closed_at, quoted, barred, keyword, simple, numbered_by, numbered, front, Lexes, over, spaced, taken}
 use Rattle.smt_tokens.specs.Fronts.{size}
 use Rattle.smt_tokens.specs.Longest.{IsQuoted, nothing, other, doubled, is_barred, IsNumeral, IsSimple, IsToken, opening, closing, numeral, decimal, string, simple as simple_text, barred as barred_text, keyword as keyword_text, IsLongest, AreLongest}
 use Rattle.std.proofs.lemmas.Bool.{ltb-false, eqb-true}

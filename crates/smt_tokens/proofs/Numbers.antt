@@ -6,8 +6,8 @@ use Rattle.std.specs.Int.{w128, cast_signed, cast_unsigned}
 use Rattle.std.proofs.lemmas.Int.{to_z-of_z, fits_signed_from_abs}
 use Rattle.std.proofs.lemmas.Bool.{ltb-true, ltb-false}
 use Rattle.std.proofs.Math.Nat.{pow-suc, pow-le-pow_right}
-use Rattle.qe_syntax.specs.declared.tree.Literal.TheVariants.{Fits, Past}
-use Rattle.redlog_tokens.specs.Lexing.{value_after, as_literal, literal_of}
+use Rattle.language_meaning.specs.declared.tree.Literal.TheVariants.{Fits, Past}
+use Rattle.language_meaning.specs.Lexing.{value_after, as_literal, literal_of}
 use Rattle.redlog_tokens.proofs.Lexemes.{value_grows}
 
 past_of : (n : ℕ) → 2 ^ 127 ≤ n → Past ≡ as_literal n

@@ -1,11 +1,11 @@
 -- Reading tokens.
 use Rattle.std.proofs.Common.{◌≡◌, ℕ, ◌+◌, ◌-◌, ◌<◌, ◌≤◌, List, [], ◌∷◌, length, take, drop, sym, ap, ◌∙◌, subst, refl, arith, drop-drop, length-drop}
 use Rattle.redlog_tokens.proofs.Lexemes.{to_end}
-use Rattle.smt_tokens.specs.declared.lexer.Front.{Front}
-use Rattle.smt_tokens.specs.declared.lexer.Front.TheVariants as found
-use Rattle.smt_tokens.specs.declared.token.SmtLexeme.{SmtLexeme}
-use Rattle.smt_tokens.specs.declared.token.SmtToken.{SmtToken}
-use Rattle.smt_tokens.specs.Lexing.{Lexes, over, spaced, taken}
+use Rattle.smt_language.specs.declared.lexer.Front.{Front}
+use Rattle.smt_language.specs.declared.lexer.Front.TheVariants as found
+use Rattle.smt_language.specs.declared.token.SmtLexeme.{SmtLexeme}
+use Rattle.smt_language.specs.declared.token.SmtToken.{SmtToken}
+use Rattle.smt_language.specs.Lexing.{Lexes, over, spaced, taken}
 use Rattle.smt_tokens.specs.Fronts.{IsFront, size, LexesFrom}
 
 lexes_space : (rest : List ℕ) (at n : ℕ) {ts : List SmtLexeme} → IsFront rest (found.Space n) → Lexes (drop n rest) (at + n) ts → Lexes rest at ts

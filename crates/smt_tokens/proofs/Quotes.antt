@@ -1,7 +1,7 @@
 -- One step along a string.
 use Rattle.std.proofs.Common.{◌≡◌, ℕ, suc, ◌+◌, ◌<◌, false, List, [], ◌∷◌, length, get_or, drop, refl, ap, ◌∙◌, arith, rules, drop-cons}
 use Rattle.std.specs.Prelude.{◌==◌}
-use Rattle.smt_tokens.specs.Lexing.{closing_quote}
+use Rattle.smt_language.specs.Lexing.{closing_quote}
 
 other_first : (at b : ℕ) (bs : List ℕ) → (b == 34) ≡ false → closing_quote at (b ∷ bs) ≡ closing_quote (at + 1) bs
 other_first at b [] e = rw e

@@ -4,14 +4,14 @@ use Rattle.std.specs.Prelude.{cond, not, ◌&&◌, ◌||◌, ◌==◌, Option, S
 use Rattle.std.specs.List.{prefix_len, list_all, list_any}
 use Rattle.std.proofs.lemmas.Bool.{ltb-true, eqb-true}
 use Rattle.std.proofs.lemmas.List.Prefix.{front_rest}
-use Rattle.qe_syntax.specs.Names.{is_digit}
-use Rattle.redlog_tokens.specs.Lexing.{is_blank}
-use Rattle.smt_tokens.specs.declared.lexer.Front.{Front}
-use Rattle.smt_tokens.specs.declared.lexer.Front.TheVariants as found
-use Rattle.smt_tokens.specs.declared.token.SmtLexeme.{SmtLexeme}
-use Rattle.smt_tokens.specs.declared.token.SmtToken.{SmtToken}
-use Rattle.smt_tokens.specs.declared.token.SmtToken.TheVariants as token
-use Rattle.smt_tokens.specs.Lexing.{is_symbol_part, is_in_bars, begins_with_digit, symbol_length, fraction_length, closing_quote, closed_at, quoted, in_bars, barred, keyword, simple, is_padded, number, numbered_by, numbered, front, Lexes, over, spaced, taken}
+use Rattle.language_meaning.specs.Names.{is_digit}
+use Rattle.language_meaning.specs.Lexing.{is_blank}
+use Rattle.smt_language.specs.declared.lexer.Front.{Front}
+use Rattle.smt_language.specs.declared.lexer.Front.TheVariants as found
+use Rattle.smt_language.specs.declared.token.SmtLexeme.{SmtLexeme}
+use Rattle.smt_language.specs.declared.token.SmtToken.{SmtToken}
+use Rattle.smt_language.specs.declared.token.SmtToken.TheVariants as token
+use Rattle.smt_language.specs.Lexing.{is_symbol_part, is_in_bars, begins_with_digit, symbol_length, fraction_length, closing_quote, closed_at, quoted, in_bars, barred, keyword, simple, is_padded, number, numbered_by, numbered, front, Lexes, over, spaced, taken}
 use Rattle.smt_tokens.specs.Longest.{IsQuoted, nothing, other, doubled, is_barred, IsNumeral, IsSimple, IsToken, opening, closing, numeral, decimal, string, simple as simple_text, barred as barred_text, keyword as keyword_text, IsText, AreTexts}
 use Rattle.smt_tokens.proofs.Fronts.{either, some_digit}
 

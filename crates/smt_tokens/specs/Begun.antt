@@ -2,9 +2,9 @@
 use Rattle.std.specs.Prelude.{ℕ, List, [], ◌∷◌, Option, Some, None}
 use Rattle.smt_tokens.specs.declared.step.Begun.{Begun}
 use Rattle.smt_tokens.specs.declared.step.Begun.TheVariants as begun
-use Rattle.smt_tokens.specs.declared.token.SmtCut.{SmtCut}
-use Rattle.smt_tokens.specs.declared.token.SmtLexeme.{SmtLexeme}
-use Rattle.smt_tokens.specs.Commands.{Closes, Runs, Cuts}
+use Rattle.smt_language.specs.declared.token.SmtCut.{SmtCut}
+use Rattle.smt_language.specs.declared.token.SmtLexeme.{SmtLexeme}
+use Rattle.smt_language.specs.Commands.{Closes, Runs, Cuts}
 
 -- after what has begun these tokens follow, and these are the commands, of which the first has begun
 pub data GoesOn : ℕ → Begun → List SmtLexeme → List SmtCut → Type 0 where

@@ -1,9 +1,9 @@
 -- What stands at the front of bytes, and what they spell from a place on.
 use Rattle.std.specs.Prelude.{◌≡◌, ℕ, List, [], ◌∷◌, drop}
-use Rattle.smt_tokens.specs.declared.lexer.Front.{Front}
-use Rattle.smt_tokens.specs.declared.lexer.Front.TheVariants as found
-use Rattle.smt_tokens.specs.declared.token.SmtLexeme.{SmtLexeme}
-use Rattle.smt_tokens.specs.Lexing.{Lexes, front}
+use Rattle.smt_language.specs.declared.lexer.Front.{Front}
+use Rattle.smt_language.specs.declared.lexer.Front.TheVariants as found
+use Rattle.smt_language.specs.declared.token.SmtLexeme.{SmtLexeme}
+use Rattle.smt_language.specs.Lexing.{Lexes, front}
 
 -- the number of bytes of what stands at the front
 abbrev pub size : Front → ℕ

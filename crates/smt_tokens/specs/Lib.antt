@@ -1,5 +1,6 @@
-pub mod Lexing
 pub mod Fronts
 pub mod Longest
-pub mod Commands
 pub mod Begun
+pub mod WordPairs
+pub mod TreeLists
+pub mod CodeTrees

@@ -1,10 +1,10 @@
 -- Tokens said another way: which texts are tokens, and that each token is the longest at its place.
 use Rattle.std.specs.Prelude.{◌≡◌, ℕ, ◌+◌, ◌<◌, ◌≤◌, Bool, true, false, not, ◌||◌, List, [], ◌∷◌, ◌++◌, length, drop, codes, ◌==◌}
 use Rattle.std.specs.List.{list_all}
-use Rattle.qe_syntax.specs.Names.{is_digit}
-use Rattle.smt_tokens.specs.declared.token.SmtLexeme.{SmtLexeme}
-use Rattle.smt_tokens.specs.declared.token.SmtToken.TheVariants as token
-use Rattle.smt_tokens.specs.Lexing.{is_symbol_part, is_padded}
+use Rattle.language_meaning.specs.Names.{is_digit}
+use Rattle.smt_language.specs.declared.token.SmtLexeme.{SmtLexeme}
+use Rattle.smt_language.specs.declared.token.SmtToken.TheVariants as token
+use Rattle.smt_language.specs.Lexing.{is_symbol_part, is_padded}
 
 -- what a string has between its quotes: each quote in it is doubled
 pub data IsQuoted : List ℕ → Type 0 where

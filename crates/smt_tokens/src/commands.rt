@@ -1,10 +1,10 @@
 ghost use Rattle.std.specs.Prelude.{◌≡◌, ◌++◌, IfOk, OnOk};
-ghost use Rattle.smt_tokens.specs.Commands.{AreCommands};
+ghost use Rattle.smt_language.specs.Commands.{AreCommands};
 ghost use Rattle.smt_tokens.specs.Begun.{listed};
 
 use crate::lexer::next_lexeme;
 use crate::step::Begun;
-use crate::token::SmtCut;
+use smt_language::SmtCut;
 use std::alloc::{AllocError, Global};
 
 /// The commands of a script, in order. What a parenthesis outside all others opens is one up to what closes it, or up to the end of

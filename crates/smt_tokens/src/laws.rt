@@ -1,10 +1,10 @@
 //! Laws of tokens and commands, each the contract of a function with an empty body, so that the check proves it.
 ghost use Rattle.std.specs.Prelude.{◌≡◌, ℕ, List};
-ghost use Rattle.smt_tokens.specs.declared.token.SmtLexeme.{SmtLexeme};
-ghost use Rattle.smt_tokens.specs.declared.token.SmtCut.{SmtCut};
-ghost use Rattle.smt_tokens.specs.Lexing.{Lexes};
+ghost use Rattle.smt_language.specs.declared.token.SmtLexeme.{SmtLexeme};
+ghost use Rattle.smt_language.specs.declared.token.SmtCut.{SmtCut};
+ghost use Rattle.smt_language.specs.Lexing.{Lexes};
 ghost use Rattle.smt_tokens.specs.Longest.{AreLongest, AreTexts};
-ghost use Rattle.smt_tokens.specs.Commands.{AreCommands};
+ghost use Rattle.smt_language.specs.Commands.{AreCommands};
 
 /// All bytes spell exactly one list of tokens, bad ones among them.
 pub fn one_list_of_tokens()

@@ -1,19 +1,12 @@
 ghost use Rattle.std.specs.Prelude.{◌≡◌, ◌+◌, ◌<◌, ◌≤◌, List, [], ◌∷◌, length, IfSome, MatchOption};
-ghost use Rattle.smt_tokens.specs.declared.token.SmtLexeme.{SmtLexeme};
-ghost use Rattle.smt_tokens.specs.Lexing.{front};
+ghost use Rattle.smt_language.specs.declared.token.SmtLexeme.{SmtLexeme};
+ghost use Rattle.smt_language.specs.Lexing.{front};
 ghost use Rattle.smt_tokens.specs.Fronts.{size, IsFront, LexesFrom};
 
 use crate::number::numbered;
 use crate::text::{barred, keyword, quoted, simple};
-use crate::token::{SmtLexeme, SmtToken};
 use redlog_tokens::{is_blank, is_digit, line};
-
-/// What stands at the front of a text, with the number of its bytes: a blank or a comment, or a token.
-#[derive(Clone, Copy)]
-pub enum Front {
-    Space(usize),
-    Token(SmtToken, usize),
-}
+use smt_language::{Front, SmtLexeme, SmtToken};
 
 /// The first token from `from` on. It takes no memory.
 pub fn next_lexeme(bytes: &[u8], from: usize) -> Option<SmtLexeme>
@@ -48,7 +41,7 @@ fn front_of(bytes: &[u8]) -> Option<Front>
 }
 
 /// What stands at the front of the bytes, which are `first` and `rest`.
-#[tactic(auto, unfolding(crate::specs::Lexing::front))]
+#[tactic(auto, unfolding(smt_language::specs::Lexing::front))]
 fn front_at(bytes: &[u8], first: u8, rest: &[u8]) -> Front
     requires { bytes.now ≡ first ∷ rest.now }
     ensures some { 0 < size result }

@@ -2,18 +2,17 @@
 
 ghost use Rattle.std.specs.Prelude.{◌≡◌, ◌+◌, ◌-◌, ◌^◌, ◌<◌, ◌≤◌, ◌++◌, [], length};
 ghost use Rattle.std.specs.List.{prefix_len};
-ghost use Rattle.qe_syntax.specs.Names.{is_digit};
-ghost use Rattle.redlog_tokens.specs.Lexing.{as_literal, literal_of};
-ghost use Rattle.smt_tokens.specs.Lexing.{fraction_length, is_padded, number, numbered};
+ghost use Rattle.language_meaning.specs.Names.{is_digit};
+ghost use Rattle.language_meaning.specs.Lexing.{as_literal, literal_of};
+ghost use Rattle.smt_language.specs.Lexing.{fraction_length, is_padded, number, numbered};
 ghost use Rattle.smt_tokens.specs.Fronts.{size};
 
-use crate::lexer::Front;
-use crate::token::SmtToken;
-use qe_syntax::Literal;
+use language_meaning::Literal;
 use redlog_tokens::{LITERAL_LIMIT, digits, literal, literal_after};
+use smt_language::{Front, SmtToken};
 
 /// The numeral or decimal at the front of the bytes, which begin with a digit.
-#[tactic(auto, unfolding(crate::specs::Lexing::numbered))]
+#[tactic(auto, unfolding(smt_language::specs::Lexing::numbered))]
 pub(crate) fn numbered(bytes: &[u8]) -> Front
     requires { 0 < prefix_len is_digit bytes.now }
     ensures some { 0 < size result }
@@ -41,7 +40,7 @@ fn fraction_length(bytes: &[u8]) -> usize
 }
 
 /// The number of these digits before a point and behind it, if there are any.
-#[tactic(auto, unfolding(crate::specs::Lexing::number))]
+#[tactic(auto, unfolding(smt_language::specs::Lexing::number))]
 fn number(whole: &[u8], fraction: &[u8]) -> SmtToken
     ensures { result ≡ number whole.now fraction.now }
 {

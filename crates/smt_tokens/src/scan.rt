@@ -1,8 +1,8 @@
 ghost use Rattle.std.specs.Prelude.{IfOk};
-ghost use Rattle.smt_tokens.specs.Lexing.{Lexes};
+ghost use Rattle.smt_language.specs.Lexing.{Lexes};
 
 use crate::lexer::next_lexeme;
-use crate::token::SmtLexeme;
+use smt_language::SmtLexeme;
 use std::alloc::{AllocError, Global};
 
 /// The tokens of the bytes, in order, bad ones among them.

@@ -1,13 +1,13 @@
 //! What one more token makes of a command that has begun.
 
 ghost use Rattle.std.specs.Prelude.{◌≡◌, ℕ, ◌+◌, ◌^◌, ◌<◌, ◌≤◌, List, [], ◌∷◌, ◌++◌};
-ghost use Rattle.smt_tokens.specs.declared.token.SmtLexeme.{SmtLexeme};
-ghost use Rattle.smt_tokens.specs.declared.token.SmtCut.{SmtCut};
+ghost use Rattle.smt_language.specs.declared.token.SmtLexeme.{SmtLexeme};
+ghost use Rattle.smt_language.specs.declared.token.SmtCut.{SmtCut};
 ghost use Rattle.smt_tokens.specs.declared.step.Begun.TheVariants.{Loose, Group};
-ghost use Rattle.smt_tokens.specs.Commands.{Cuts, is_open, is_close};
+ghost use Rattle.smt_language.specs.Commands.{Cuts, is_open, is_close};
 ghost use Rattle.smt_tokens.specs.Begun.{GoesOn, listed, open_inside};
 
-use crate::token::{SmtCut, SmtLexeme, SmtToken};
+use smt_language::{SmtCut, SmtLexeme, SmtToken};
 
 /// The command that has begun at a place of a script and has not ended.
 #[derive(Clone, Copy)]

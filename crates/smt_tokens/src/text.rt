@@ -2,16 +2,15 @@
 
 ghost use Rattle.std.specs.Prelude.{◌≡◌, ◌+◌, ◌<◌, ◌≤◌, ◌==◌, [], length, codes, IfSome};
 ghost use Rattle.std.specs.List.{prefix_len, list_any};
-ghost use Rattle.smt_tokens.specs.Lexing.{is_symbol_part, is_in_bars, begins_with_digit, symbol_length, closing_quote, symbol, in_bars, simple, keyword, barred, quoted};
+ghost use Rattle.smt_language.specs.Lexing.{is_symbol_part, is_in_bars, begins_with_digit, symbol_length, closing_quote, symbol, in_bars, simple, keyword, barred, quoted};
 ghost use Rattle.smt_tokens.specs.Fronts.{size};
 
-use crate::lexer::Front;
-use crate::token::SmtToken;
-use qe_syntax::Name;
+use logic_meaning::Name;
 use redlog_tokens::{is_digit, is_letter};
+use smt_language::{Front, SmtToken};
 
 /// A string that has begun.
-#[tactic(auto, unfolding(crate::specs::Lexing::quoted))]
+#[tactic(auto, unfolding(smt_language::specs::Lexing::quoted))]
 pub(crate) fn quoted(bytes: &[u8]) -> Front
     ensures some { 0 < size result }
     ensures within { size result ≤ 1 + length bytes.now }
@@ -42,7 +41,7 @@ fn closing_quote(bytes: &[u8]) -> Option<usize>
 }
 
 /// A symbol in bars that has begun.
-#[tactic(auto, unfolding(crate::specs::Lexing::barred))]
+#[tactic(auto, unfolding(smt_language::specs::Lexing::barred))]
 pub(crate) fn barred(bytes: &[u8]) -> Front
     ensures some { 0 < size result }
     ensures within { size result ≤ 1 + length bytes.now }
@@ -64,7 +63,7 @@ fn before_bar(bytes: &[u8]) -> usize
 }
 
 /// What these bytes are between bars.
-#[tactic(auto, unfolding(crate::specs::Lexing::in_bars))]
+#[tactic(auto, unfolding(smt_language::specs::Lexing::in_bars))]
 fn in_bars(text: &[u8]) -> SmtToken
     ensures { result ≡ in_bars text.now }
 {
@@ -81,7 +80,7 @@ fn has_backslash(text: &[u8]) -> bool
 }
 
 /// A keyword whose colon stands before these bytes.
-#[tactic(auto, unfolding(crate::specs::Lexing::keyword))]
+#[tactic(auto, unfolding(smt_language::specs::Lexing::keyword))]
 pub(crate) fn keyword(bytes: &[u8]) -> Front
     ensures some { 0 < size result }
     ensures within { size result ≤ 1 + length bytes.now }
@@ -95,7 +94,7 @@ pub(crate) fn keyword(bytes: &[u8]) -> Front
 }
 
 /// A simple symbol; any other byte is bad.
-#[tactic(auto, unfolding(crate::specs::Lexing::simple))]
+#[tactic(auto, unfolding(smt_language::specs::Lexing::simple))]
 pub(crate) fn simple(bytes: &[u8]) -> Front
     requires { 0 < length bytes.now }
     ensures some { 0 < size result }
@@ -110,7 +109,7 @@ pub(crate) fn simple(bytes: &[u8]) -> Front
 }
 
 /// The symbol of these bytes.
-#[tactic(auto, unfolding(crate::specs::Lexing::symbol))]
+#[tactic(auto, unfolding(smt_language::specs::Lexing::symbol))]
 fn symbol(text: &[u8]) -> SmtToken
     ensures { result ≡ symbol text.now }
 {

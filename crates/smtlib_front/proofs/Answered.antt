@@ -4,38 +4,38 @@ use Rattle.std.specs.Prelude.{is_some, position, not, option_map}
 use Rattle.std.specs.List.{list_any}
 use Rattle.exact_numbers.specs.Fraction.{frac_of}
 use Rattle.exact_numbers.specs.declared.fraction.Fraction.{Fraction}
-use Rattle.linear_forms.specs.declared.form.VarId.{VarId}
-use Rattle.atom_normal.specs.declared.atoms.Context.{Context as Theory}
-use Rattle.atom_normal.specs.Atoms.{context_of}
-use Rattle.qe_syntax.specs.Trees.{FormulaTree}
-use Rattle.qe_syntax.specs.Value.{same_name}
+use Rattle.logic_meaning.specs.declared.form.VarId.{VarId}
+use Rattle.normal_atoms.specs.declared.atoms.Context.{Context as Theory}
+use Rattle.normal_atoms.specs.Atoms.{context_of}
+use Rattle.language_meaning.specs.Trees.{FormulaTree}
+use Rattle.language_meaning.specs.Value.{same_name}
 use Rattle.formula_tree.specs.declared.shape.Shape.{Shape}
 use Rattle.formula_tree.specs.Makers.{Keeps}
-use Rattle.formula_tree.specs.Names.{with_name}
-use Rattle.resolved_formulas.specs.Resolving.{formula_variables}
+use Rattle.logic_meaning.specs.Names.{with_name}
+use Rattle.language_meaning.specs.Resolving.{formula_variables}
 use Rattle.formula_store.specs.declared.id.FormulaId.{FormulaId}
 use Rattle.formula_store.specs.Nodes.{tree, IsId}
 use Rattle.prenex_forms.proofs.FoundNames.{goes_last}
-use Rattle.redlog_printer.specs.Writing.{text_limit}
-use Rattle.smt_syntax.specs.declared.command.Sort.{Sort}
-use Rattle.smt_syntax.specs.declared.names.SortedName.{SortedName}
-use Rattle.smt_syntax.specs.Trees.{ExpressionTree, CommandTree, Choose, Declare, Assert, Values}
-use Rattle.smt_meaning.specs.QuantifiedNames.{quantified_names}
+use Rattle.logic_meaning.specs.Writing.{text_limit}
+use Rattle.smt_language.specs.declared.command.Sort.{Sort}
+use Rattle.smt_language.specs.declared.names.SortedName.{SortedName}
+use Rattle.smt_language.specs.Trees.{ExpressionTree, CommandTree, Choose, Declare, Assert, Values}
+use Rattle.smt_language.specs.QuantifiedNames.{quantified_names}
 use Rattle.smt_meaning.specs.LevelsBelow.{AreLevelsBelow}
-use Rattle.smt_meaning.specs.Meaning.{as_formula, declared_scope, meaning, sort_name}
-use Rattle.smt_meaning.specs.Operators.{Formula}
+use Rattle.smt_language.specs.Meaning.{as_formula, declared_scope, meaning, sort_name}
+use Rattle.smt_language.specs.Operators.{Formula}
 use Rattle.smt_meaning.specs.Proper.{IsProper}
 use Rattle.smt_meaning.proofs.MeaningNames.{as_formula_there, levels_suffice}
-use Rattle.smt_resolving.specs.Outcomes.{IsAsserted, IsAssertedAs, IsRefusedFor}
-use Rattle.smt_resolving.specs.declared.error.AssertError.{AssertError}
-use Rattle.smt_runs.specs.State.{State, theory_of}
-use Rattle.smt_runs.specs.State as state
-use Rattle.smt_runs.specs.Replies.{chooses, declares, asserts, values}
-use Rattle.smt_runs.specs.Texts.{values_text}
-use Rattle.smt_runs.specs.AssertionWords.{of_assertion}
-use Rattle.smt_runs.specs.declared.error.SmtError.TheVariants as error
-use Rattle.smt_runs.specs.declared.reply.SmtReply.TheVariants as reply
-use Rattle.smt_sentences.proofs.Resolvable.{asserted_resolvable}
+use Rattle.smt_resolver.specs.Outcomes.{IsAsserted, IsAssertedAs, IsRefusedFor}
+use Rattle.smt_resolver.specs.declared.error.AssertError.{AssertError}
+use Rattle.program_meaning.specs.SmtState.{State, theory_of}
+use Rattle.program_meaning.specs.SmtState as state
+use Rattle.program_meaning.specs.Replies.{chooses, declares, asserts, values}
+use Rattle.program_meaning.specs.Texts.{values_text}
+use Rattle.smt_resolver.specs.AssertionWords.{of_assertion}
+use Rattle.program_meaning.specs.declared.smt_error.SmtError.TheVariants as error
+use Rattle.program_meaning.specs.declared.smt_reply.SmtReply.TheVariants as reply
+use Rattle.smt_theorems.proofs.Resolvable.{asserted_resolvable}
 use Rattle.smtlib_front.specs.Seen.{Seen}
 use Rattle.smtlib_front.specs.Represents.{Represents, kept_of}
 use Rattle.smtlib_front.specs.Steps.{IsAnswered, IsRefused}

@@ -2,32 +2,32 @@
 use Rattle.std.proofs.Common.{◌≡◌, ◌⊎◌, ◌<◌, ◌≤◌, inl, inr, ℕ, List, [], true, false, Some, None, length, refl, sym, ◌∙◌, subst, arith}
 use Rattle.std.specs.Prelude.{is_some, not}
 use Rattle.std.specs.List.{list_any}
-use Rattle.formula_meaning.specs.Context.{Context}
-use Rattle.qe_syntax.specs.Trees.{FormulaTree}
-use Rattle.qe_syntax.specs.Value.{same_name}
+use Rattle.logic_meaning.specs.Context.{Context}
+use Rattle.language_meaning.specs.Trees.{FormulaTree}
+use Rattle.language_meaning.specs.Value.{same_name}
 use Rattle.resolved_formulas.specs.Accepted.{IsAccepted as HasNoCause}
-use Rattle.resolved_formulas.specs.Causes.{IsTooDeep}
-use Rattle.formula_resolving.specs.Refusals.{Applies}
-use Rattle.formula_resolving.specs.declared.error.StaticError.{StaticError}
-use Rattle.formula_resolving.specs.declared.error.StaticError.TheVariants as static
-use Rattle.redlog_printer.specs.Writing.{text_limit}
+use Rattle.language_meaning.specs.Causes.{IsTooDeep}
+use Rattle.language_meaning.specs.Refusals.{Applies}
+use Rattle.language_meaning.specs.declared.static_error.StaticError.{StaticError}
+use Rattle.language_meaning.specs.declared.static_error.StaticError.TheVariants as static
+use Rattle.logic_meaning.specs.Writing.{text_limit}
 use Rattle.exact_numbers.specs.Frac.{Frac}
-use Rattle.smt_syntax.specs.declared.command.Sort.{Sort}
-use Rattle.smt_syntax.specs.declared.names.SortedName.{SortedName}
-use Rattle.smt_syntax.specs.Trees.{ExpressionTree, CommandTree, Choose, Ignored, Declare, Assert, Check, Values, Exit}
-use Rattle.smt_meaning.specs.Meaning.{sort_name}
-use Rattle.smt_meaning.specs.Nodes.{formula_nodes}
-use Rattle.smt_resolving.specs.Asserted.{assertion_levels, is_undeclared, MeansFormula, MeansNoFormula, MeansTooMany, MeetsFirst}
-use Rattle.smt_resolving.specs.Outcomes.{IsRefusedFor}
-use Rattle.smt_resolving.specs.declared.error.AssertError.{AssertError}
-use Rattle.smt_resolving.specs.declared.error.AssertError.TheVariants as assertion
-use Rattle.smt_runs.specs.declared.error.SmtError.TheVariants as error
-use Rattle.smt_runs.specs.Causes.{IsOutOfTurn, InTheory, Meets, OfValues, HasLongLine, IsAccepted, IsFirst}
-use Rattle.smt_runs.specs.Sentence.{sentence}
-use Rattle.smt_runs.specs.State.{State, is_declared}
-use Rattle.smt_runs.specs.State as state
-use Rattle.smt_runs.specs.Texts.{values_text}
-use Rattle.smt_runs.specs.AssertionWords.{of_assertion}
+use Rattle.smt_language.specs.declared.command.Sort.{Sort}
+use Rattle.smt_language.specs.declared.names.SortedName.{SortedName}
+use Rattle.smt_language.specs.Trees.{ExpressionTree, CommandTree, Choose, Ignored, Declare, Assert, Check, Values, Exit}
+use Rattle.smt_language.specs.Meaning.{sort_name}
+use Rattle.smt_language.specs.Nodes.{formula_nodes}
+use Rattle.smt_language.specs.Asserted.{assertion_levels, is_undeclared, MeansFormula, MeansNoFormula, MeansTooMany, MeetsFirst}
+use Rattle.smt_resolver.specs.Outcomes.{IsRefusedFor}
+use Rattle.smt_resolver.specs.declared.error.AssertError.{AssertError}
+use Rattle.smt_resolver.specs.declared.error.AssertError.TheVariants as assertion
+use Rattle.program_meaning.specs.declared.smt_error.SmtError.TheVariants as error
+use Rattle.program_meaning.specs.SmtCauses.{IsOutOfTurn, InTheory, Meets, OfValues, HasLongLine, IsAccepted, IsFirst}
+use Rattle.program_meaning.specs.Sentence.{sentence}
+use Rattle.program_meaning.specs.SmtState.{State, is_declared}
+use Rattle.program_meaning.specs.SmtState as state
+use Rattle.program_meaning.specs.Texts.{values_text}
+use Rattle.smt_resolver.specs.AssertionWords.{of_assertion}
 
 never : ⊥ → ⊥
 never h = h

@@ -5,21 +5,21 @@ use Rattle.std.proofs.lemmas.List.{length-map}
 use Rattle.exact_numbers.specs.Fraction.{frac_of}
 use Rattle.exact_numbers.specs.Limit.{InLimit}
 use Rattle.exact_numbers.specs.declared.fraction.Fraction.{Fraction}
-use Rattle.formula_meaning.specs.Context.{Context}
-use Rattle.formula_meaning.specs.Every.{Every}
-use Rattle.formula_meaning.specs.Tree.{Tree, TrueAt}
-use Rattle.formula_meaning.specs.Atom.{Atom}
-use Rattle.elimination_reference.specs.Reference.{reference}
-use Rattle.sample_reference.specs.Sample.{reference_sample}
-use Rattle.sample_reference.specs.Values.{origin}
-use Rattle.sentence_theory.specs.Leading.{under_names}
-use Rattle.sentence_answers.specs.Decided.{Decides}
-use Rattle.sentence_answers.specs.declared.verdict.Verdict.{Verdict}
-use Rattle.sentence_answers.specs.declared.verdict.Verdict.TheVariants as verdict
-use Rattle.smt_runs.specs.Checks.{Checks, sat, sat_alone, unsat, unknown}
-use Rattle.smt_runs.specs.Sentence.{Holds}
-use Rattle.smt_runs.specs.State.{State}
-use Rattle.smt_sentences.specs.Resolved.{asserted_tree, IsSentenceMade, IsSentenceMeant}
+use Rattle.logic_meaning.specs.Context.{Context}
+use Rattle.logic_meaning.specs.Every.{Every}
+use Rattle.logic_meaning.specs.Tree.{Tree, TrueAt}
+use Rattle.logic_meaning.specs.Atom.{Atom}
+use Rattle.logic_meaning.specs.Reference.{reference}
+use Rattle.logic_meaning.specs.ReferenceSample.{reference_sample}
+use Rattle.logic_meaning.specs.Values.{origin}
+use Rattle.sample_reference.specs.Leading.{under_names}
+use Rattle.engine_answers.specs.Decided.{Decides}
+use Rattle.engine_answers.specs.declared.verdict.Verdict.{Verdict}
+use Rattle.engine_answers.specs.declared.verdict.Verdict.TheVariants as verdict
+use Rattle.program_meaning.specs.Checks.{Checks, sat, sat_alone, unsat, unknown}
+use Rattle.program_meaning.specs.Sentence.{Holds}
+use Rattle.program_meaning.specs.SmtState.{State}
+use Rattle.smt_theorems.specs.Resolved.{asserted_tree, IsSentenceMade, IsSentenceMeant}
 use Rattle.smtlib_front.specs.Represents.{kept_of}
 use Rattle.smtlib_front.specs.Seen.{HasValueForEach}
 use Rattle.smtlib_front.specs.Words.{word_of_verdict, kept_by}

@@ -6,3 +6,10 @@ pub mod Replied
 pub mod Answered
 pub mod Checked
 pub mod Made
+pub mod Spacing
+pub mod Places
+pub mod Commands
+pub mod SmtAnswersPlaces
+pub mod Scripts
+pub mod Whole
+pub mod Unrefused

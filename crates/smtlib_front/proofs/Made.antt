@@ -1,28 +1,28 @@
 -- What is made of the formulas that are kept is the sentence of the state.
 use Rattle.std.proofs.Common.{◌≡◌, ◌≤◌, ◌<◌, inr, ℕ, List, [], Some, Vec, Global, map, length, sym, ap, ◌∙◌, subst, arith}
-use Rattle.formula_meaning.specs.Every.{Every}
-use Rattle.formula_meaning.specs.Sizes.{height}
-use Rattle.formula_meaning.specs.Tree.{Tree, IsFree}
-use Rattle.atom_normal.specs.declared.atoms.Context.{Context as Theory}
-use Rattle.atom_normal.specs.Atoms.{context_of}
-use Rattle.atom_normal.specs.NormalForm.{IsNormal}
-use Rattle.resolved_formulas.specs.Causes.{height_in_place, IsTooDeep, most_height}
+use Rattle.logic_meaning.specs.Every.{Every}
+use Rattle.logic_meaning.specs.Sizes.{height}
+use Rattle.logic_meaning.specs.Tree.{Tree, IsFree}
+use Rattle.normal_atoms.specs.declared.atoms.Context.{Context as Theory}
+use Rattle.normal_atoms.specs.Atoms.{context_of}
+use Rattle.logic_meaning.specs.NormalForm.{IsNormal}
+use Rattle.language_meaning.specs.Causes.{height_in_place, IsTooDeep, most_height}
 use Rattle.formula_tree.specs.declared.shape.Shape.{Shape}
 use Rattle.formula_tree.specs.Makers.{IsMade, Keeps}
 use Rattle.formula_store.specs.declared.id.FormulaId.{FormulaId}
 use Rattle.formula_store.specs.Nodes.{tree, IsId}
-use Rattle.sentence_theory.specs.Leading.{under_names}
-use Rattle.sentence_answers.specs.Decided.{Decides}
-use Rattle.sentence_answers.specs.declared.verdict.Verdict.{Verdict}
-use Rattle.smt_syntax.specs.Trees.{Check}
-use Rattle.smt_runs.specs.State.{State}
-use Rattle.smt_runs.specs.Sentence.{sentence, resolved_sentence}
-use Rattle.smt_runs.specs.Replies.{checks}
-use Rattle.smt_runs.specs.declared.error.SmtError.TheVariants as error
-use Rattle.smt_runs.specs.declared.reply.SmtReply.TheVariants as reply
-use Rattle.smt_sentences.specs.Resolved.{conjunction, asserted_tree, AreResolvable, IsSentenceMade, IsSentenceMeant}
-use Rattle.smt_sentences.proofs.Made.{sentence_is_made}
-use Rattle.smt_sentences.proofs.Meant.{sentence_is_meant}
+use Rattle.sample_reference.specs.Leading.{under_names}
+use Rattle.engine_answers.specs.Decided.{Decides}
+use Rattle.engine_answers.specs.declared.verdict.Verdict.{Verdict}
+use Rattle.smt_language.specs.Trees.{Check}
+use Rattle.program_meaning.specs.SmtState.{State}
+use Rattle.program_meaning.specs.Sentence.{sentence, resolved_sentence}
+use Rattle.program_meaning.specs.Replies.{checks}
+use Rattle.program_meaning.specs.declared.smt_error.SmtError.TheVariants as error
+use Rattle.program_meaning.specs.declared.smt_reply.SmtReply.TheVariants as reply
+use Rattle.smt_theorems.specs.Resolved.{conjunction, asserted_tree, AreResolvable, IsSentenceMade, IsSentenceMeant}
+use Rattle.smt_theorems.proofs.Made.{sentence_is_made}
+use Rattle.smt_theorems.proofs.Meant.{sentence_is_meant}
 use Rattle.smtlib_front.specs.Seen.{Seen, HasValueForEach}
 use Rattle.smtlib_front.specs.Represents.{Represents, kept_of}
 use Rattle.smtlib_front.specs.Steps.{IsAnswered, IsRefused}

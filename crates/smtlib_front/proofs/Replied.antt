@@ -1,15 +1,15 @@
 -- What a command is answered with, from what becomes of it.
 use Rattle.std.proofs.Common.{◌≡◌, ◌⊎◌, inl, inr, ℕ, List, Bool, true, false, Option, Some, None, Result, Ok, Err, refl, sym, ap, subst}
 use Rattle.std.specs.Prelude.{is_some, is_none, option_map, ◌&&◌}
-use Rattle.linear_forms.specs.declared.form.VarId.{VarId}
-use Rattle.smt_syntax.specs.Trees.{CommandTree}
-use Rattle.smt_reader.specs.Spells.{Spells}
-use Rattle.smt_runs.specs.State.{State}
-use Rattle.smt_runs.specs.Replies.{Replies, refused, answered, out_of_memory}
-use Rattle.smt_runs.specs.Causes.{IsFirst}
-use Rattle.smt_runs.specs.declared.error.SmtError.{SmtError}
-use Rattle.smt_runs.specs.declared.error.SmtError.TheVariants as error
-use Rattle.smt_runs.specs.declared.reply.SmtReply.{SmtReply}
+use Rattle.logic_meaning.specs.declared.form.VarId.{VarId}
+use Rattle.smt_language.specs.Trees.{CommandTree}
+use Rattle.smt_language.specs.Spells.{Spells}
+use Rattle.program_meaning.specs.SmtState.{State}
+use Rattle.program_meaning.specs.Replies.{Replies, refused, answered, out_of_memory}
+use Rattle.program_meaning.specs.SmtCauses.{IsFirst}
+use Rattle.program_meaning.specs.declared.smt_error.SmtError.{SmtError}
+use Rattle.program_meaning.specs.declared.smt_error.SmtError.TheVariants as error
+use Rattle.program_meaning.specs.declared.smt_reply.SmtReply.{SmtReply}
 use Rattle.smtlib_front.specs.Seen.{Seen}
 use Rattle.smtlib_front.specs.Represents.{Represents}
 use Rattle.smtlib_front.specs.Steps.{Does}

@@ -3,16 +3,16 @@ use Rattle.std.proofs.Common.{◌≡◌, ℕ, ◌+◌, ◌≤◌, List, [], ◌�
 use Rattle.std.specs.Prelude.{option_map}
 use Rattle.std.specs.List.{AllByRecursion}
 use Rattle.std.proofs.lemmas.List.{length-append}
-use Rattle.formula_meaning.specs.Context.{Context}
-use Rattle.atom_normal.specs.declared.atoms.Context.{Context as Theory}
-use Rattle.atom_normal.specs.Atoms.{context_of}
-use Rattle.qe_syntax.specs.Trees.{FormulaTree}
+use Rattle.logic_meaning.specs.Context.{Context}
+use Rattle.normal_atoms.specs.declared.atoms.Context.{Context as Theory}
+use Rattle.normal_atoms.specs.Atoms.{context_of}
+use Rattle.language_meaning.specs.Trees.{FormulaTree}
 use Rattle.formula_tree.specs.declared.shape.Shape.{Shape}
 use Rattle.formula_tree.specs.Makers.{AreMade, Keeps}
 use Rattle.formula_store.specs.declared.id.FormulaId.{FormulaId}
 use Rattle.formula_store.specs.Nodes.{tree, IsId}
-use Rattle.smt_runs.specs.State.{State}
-use Rattle.smt_runs.specs.State as state
+use Rattle.program_meaning.specs.SmtState.{State}
+use Rattle.program_meaning.specs.SmtState as state
 use Rattle.smtlib_front.specs.Seen.{Seen}
 use Rattle.smtlib_front.specs.Represents.{IsStored, AreStored, AreStoredUnder, kept_of, Represents}
 use Rattle.smtlib_front.specs.declared.kept.Kept.{Kept}

@@ -1,19 +1,19 @@
 -- Formulas that ids stand for, while the formulas of the store change.
 use Rattle.std.proofs.Common.{◌≡◌, ℕ, ◌≤◌, List, [], ◌∷◌, ◌++◌, map, refl, ap₂, ◌∙◌}
 use Rattle.std.specs.List.{AllByRecursion}
-use Rattle.formula_meaning.specs.Context.{Context}
-use Rattle.formula_meaning.specs.Tree.{Tree}
-use Rattle.qe_syntax.specs.Trees.{FormulaTree}
+use Rattle.logic_meaning.specs.Context.{Context}
+use Rattle.logic_meaning.specs.Tree.{Tree}
+use Rattle.language_meaning.specs.Trees.{FormulaTree}
 use Rattle.formula_tree.specs.declared.shape.Shape.{Shape}
 use Rattle.formula_tree.specs.Makers.{Keeps}
-use Rattle.resolved_formulas.specs.Resolving.{formula_variables}
+use Rattle.language_meaning.specs.Resolving.{formula_variables}
 use Rattle.formula_store.specs.declared.id.FormulaId.{FormulaId}
 use Rattle.formula_store.specs.Nodes.{tree, IsId}
 use Rattle.smt_meaning.specs.LevelsBelow.{AreLevelsBelow}
-use Rattle.smt_runs.specs.State.{State}
-use Rattle.smt_sentences.specs.Resolvable.{IsResolvable}
-use Rattle.smt_sentences.specs.Resolved.{numbered, sentence_levels}
-use Rattle.smt_sentences.proofs.Resolvable.{more_names}
+use Rattle.program_meaning.specs.SmtState.{State}
+use Rattle.smt_theorems.specs.Resolvable.{IsResolvable}
+use Rattle.smt_theorems.specs.Resolved.{numbered, sentence_levels}
+use Rattle.smt_theorems.proofs.Resolvable.{more_names}
 use Rattle.smtlib_front.specs.Represents.{IsStored, AreStored}
 
 module _ (c : Context) (n : ℕ) (nodes : List (Shape FormulaId)) where

@@ -1,14 +1,14 @@
 -- A formula under `ex` of one name after the other, from the last to the first.
 use Rattle.std.proofs.Common.{◌≡◌, ℕ, suc, ◌-◌, ◌<◌, ◌≤◌, List, map, ap, ◌∙◌, subst, arith}
-use Rattle.formula_meaning.specs.Formula.{Ex}
-use Rattle.formula_meaning.specs.Tree.{Tree}
+use Rattle.logic_meaning.specs.Formula.{Ex}
+use Rattle.logic_meaning.specs.Tree.{Tree}
 use Rattle.formula_tree.specs.declared.shape.Shape.{Shape}
 use Rattle.formula_tree.specs.Makers.{IsMade, Keeps}
 use Rattle.formula_store.specs.declared.id.FormulaId.{FormulaId}
 use Rattle.formula_store.specs.Nodes.{tree, IsId}
 use Rattle.formula_store.proofs.Makes.{keeps_then}
-use Rattle.sentence_theory.specs.Leading.{under_names}
-use Rattle.smt_sentences.specs.Resolved.{conjunction}
+use Rattle.sample_reference.specs.Leading.{under_names}
+use Rattle.smt_theorems.specs.Resolved.{conjunction}
 
 -- the id is the joined formulas under the names from this level on, and older ids stand for what they stood for
 pub record IsUnder (old : List (Shape FormulaId)) (asserted : List FormulaId) (count : ℕ) (nodes : List (Shape FormulaId)) (id : FormulaId) (level : ℕ) : Type 0 where

@@ -2,3 +2,8 @@ pub mod Seen
 pub mod Represents
 pub mod Steps
 pub mod Words
+pub mod Pairs
+pub mod Stops
+pub mod SmtAnswersSteps
+pub mod NoRefusal
+pub mod FromEngineAnswers

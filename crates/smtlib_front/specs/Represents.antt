@@ -1,19 +1,19 @@
 -- The state of a script as the program keeps it: a formula that is asserted is kept as the id of its resolved form.
 use Rattle.std.specs.Prelude.{◌≡◌, ℕ, List, [], ◌∷◌, Option, Some, None, option_map, map, length}
 use Rattle.exact_numbers.specs.Fraction.{frac_of}
-use Rattle.formula_meaning.specs.Context.{Context}
-use Rattle.atom_normal.specs.Atoms.{context_of}
-use Rattle.qe_syntax.specs.Trees.{FormulaTree}
+use Rattle.logic_meaning.specs.Context.{Context}
+use Rattle.normal_atoms.specs.Atoms.{context_of}
+use Rattle.language_meaning.specs.Trees.{FormulaTree}
 use Rattle.formula_tree.specs.declared.shape.Shape.{Shape}
 use Rattle.formula_tree.specs.Makers.{IsMade}
-use Rattle.resolved_formulas.specs.Resolving.{formula_variables, resolve}
+use Rattle.language_meaning.specs.Resolving.{formula_variables, resolve}
 use Rattle.formula_store.specs.declared.id.FormulaId.{FormulaId}
 use Rattle.formula_store.specs.Nodes.{tree, IsId}
-use Rattle.smt_meaning.specs.Levels.{levels}
+use Rattle.smt_language.specs.Levels.{levels}
 use Rattle.smt_meaning.specs.LevelsBelow.{AreLevelsBelow}
-use Rattle.smt_runs.specs.State.{State}
-use Rattle.smt_runs.specs.State as state
-use Rattle.smt_sentences.specs.Resolvable.{IsResolvable}
+use Rattle.program_meaning.specs.SmtState.{State}
+use Rattle.program_meaning.specs.SmtState as state
+use Rattle.smt_theorems.specs.Resolvable.{IsResolvable}
 use Rattle.smtlib_front.specs.Seen.{Seen}
 use Rattle.smtlib_front.specs.declared.kept.Kept.{Kept}
 use Rattle.smtlib_front.specs.declared.kept.Kept.TheVariants as kept

@@ -1,9 +1,9 @@
 -- What is seen of a script that is being answered.
 use Rattle.std.specs.Prelude.{◌≡◌, ℕ, List, Option, length}
-use Rattle.atom_normal.specs.declared.atoms.Context.{Context}
+use Rattle.normal_atoms.specs.declared.atoms.Context.{Context}
 use Rattle.formula_tree.specs.declared.shape.Shape.{Shape}
 use Rattle.formula_store.specs.declared.id.FormulaId.{FormulaId}
-use Rattle.engine_answers.specs.FromBlockScheduler.{Limits}
+use Rattle.engine_answers.specs.declared.limits.Limits.{Limits}
 use Rattle.smtlib_front.specs.declared.kept.Kept.{Kept}
 use Rattle.smtlib_front.specs.declared.kept.Kept.TheVariants.{Nothing, TooLarge, Values}
 

@@ -1,12 +1,12 @@
 -- What becomes of a command that is read.
 use Rattle.std.specs.Prelude.{◌≡◌, ◌⊎◌, ℕ, Result, Ok, Err}
-use Rattle.smt_syntax.specs.Trees.{CommandTree}
-use Rattle.smt_runs.specs.State.{State}
-use Rattle.smt_runs.specs.Causes.{IsAccepted, IsFirst}
-use Rattle.smt_runs.specs.Replies.{Answers}
-use Rattle.smt_runs.specs.declared.error.SmtError.{SmtError}
-use Rattle.smt_runs.specs.declared.error.SmtError.TheVariants as error
-use Rattle.smt_runs.specs.declared.reply.SmtReply.{SmtReply}
+use Rattle.smt_language.specs.Trees.{CommandTree}
+use Rattle.program_meaning.specs.SmtState.{State}
+use Rattle.program_meaning.specs.SmtCauses.{IsAccepted, IsFirst}
+use Rattle.program_meaning.specs.Replies.{Answers}
+use Rattle.program_meaning.specs.declared.smt_error.SmtError.{SmtError}
+use Rattle.program_meaning.specs.declared.smt_error.SmtError.TheVariants as error
+use Rattle.program_meaning.specs.declared.smt_reply.SmtReply.{SmtReply}
 use Rattle.smtlib_front.specs.Seen.{Seen}
 use Rattle.smtlib_front.specs.Represents.{Represents}
 

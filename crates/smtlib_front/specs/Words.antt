@@ -1,7 +1,7 @@
 -- What a verdict is told as, and what it leaves.
 use Rattle.std.specs.Prelude.{ℕ, List, codes}
-use Rattle.sentence_answers.specs.declared.verdict.Verdict.{Verdict}
-use Rattle.sentence_answers.specs.declared.verdict.Verdict.TheVariants as verdict
+use Rattle.engine_answers.specs.declared.verdict.Verdict.{Verdict}
+use Rattle.engine_answers.specs.declared.verdict.Verdict.TheVariants as verdict
 use Rattle.smtlib_front.specs.declared.kept.Kept.{Kept}
 use Rattle.smtlib_front.specs.declared.kept.Kept.TheVariants as kept
 

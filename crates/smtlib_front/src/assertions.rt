@@ -1,19 +1,18 @@
 //! The command that adds a formula.
 
 ghost use Rattle.std.specs.Prelude.{◌≡◌};
-ghost use Rattle.smt_runs.specs.State.{State};
+ghost use Rattle.program_meaning.specs.SmtState.{State};
 ghost use Rattle.smt_meaning.specs.Proper.{IsProper};
-ghost use Rattle.smt_syntax.specs.CodeTrees.{expression_tree};
-ghost use Rattle.smt_syntax.specs.Trees.{Assert};
+ghost use Rattle.smt_tokens.specs.CodeTrees.{expression_tree};
+ghost use Rattle.smt_language.specs.Trees.{Assert};
 ghost use Rattle.smtlib_front.specs.Represents.{Represents};
 ghost use Rattle.smtlib_front.specs.Steps.{Does};
 
 use crate::kept::Kept;
 use crate::smt::Smt;
-use smt_resolving::asserted;
-use smt_runs::{SmtError, SmtReply};
-use smt_syntax::Expression;
-use smt_values::Setting;
+use program_meaning::{SmtError, SmtReply};
+use smt_resolver::{Setting, asserted};
+use smt_tokens::Expression;
 
 impl Smt {
     /// Adds what the expression means to what is asserted.

@@ -1,8 +1,8 @@
 //! The command that asks whether all that is asserted can be true together.
 
 ghost use Rattle.std.specs.Prelude.{◌≡◌, codes, IfOk};
-ghost use Rattle.smt_runs.specs.State.{State};
-ghost use Rattle.smt_syntax.specs.Trees.{Check};
+ghost use Rattle.program_meaning.specs.SmtState.{State};
+ghost use Rattle.smt_language.specs.Trees.{Check};
 ghost use Rattle.smtlib_front.specs.Represents.{Represents};
 ghost use Rattle.smtlib_front.specs.Steps.{Does};
 ghost use Rattle.smtlib_front.specs.Words.{word_of_verdict, kept_by};
@@ -10,10 +10,9 @@ ghost use Rattle.smtlib_front.specs.Words.{word_of_verdict, kept_by};
 use crate::kept::Kept;
 use crate::sentences::sentence_of;
 use crate::smt::Smt;
-use engine_answers::Engine;
+use engine_answers::{Engine, Verdict, decided};
+use program_meaning::{SmtError, SmtReply};
 use qe_parallel::Gate;
-use sentence_answers::{Verdict, decided};
-use smt_runs::{SmtError, SmtReply};
 use std::alloc::{AllocError, Global};
 use std::thread::Threads;
 

@@ -1,18 +1,18 @@
 //! The commands that say what the formulas of a script are about.
 
 ghost use Rattle.std.specs.Prelude.{◌≡◌};
-ghost use Rattle.smt_runs.specs.State.{State, theory_of};
-ghost use Rattle.smt_syntax.specs.Trees.{Choose, Declare};
-ghost use Rattle.atom_normal.specs.Atoms.{context_of};
+ghost use Rattle.program_meaning.specs.SmtState.{State, theory_of};
+ghost use Rattle.smt_language.specs.Trees.{Choose, Declare};
+ghost use Rattle.normal_atoms.specs.Atoms.{context_of};
 ghost use Rattle.smtlib_front.specs.Represents.{Represents};
 ghost use Rattle.smtlib_front.specs.Steps.{Does};
 
 use crate::kept::Kept;
 use crate::smt::Smt;
-use atom_normal::Context;
-use smt_runs::{SmtError, SmtReply};
-use smt_syntax::{Sort, SortedName};
-use smt_values::are_numbers;
+use normal_atoms::Context;
+use program_meaning::{SmtError, SmtReply};
+use smt_language::{Sort, SortedName};
+use smt_resolver::are_numbers;
 
 impl Smt {
     /// Chooses the logic, once.

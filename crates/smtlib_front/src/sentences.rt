@@ -4,11 +4,12 @@ ghost use Rattle.std.specs.Prelude.{◌≡◌, map, IfOk};
 ghost use Rattle.std.specs.List.{AllByRecursion};
 ghost use Rattle.formula_tree.specs.Makers.{IsMade, Keeps};
 ghost use Rattle.formula_store.specs.Nodes.{tree, IsId};
-ghost use Rattle.sentence_theory.specs.Leading.{under_names};
-ghost use Rattle.smt_sentences.specs.Resolved.{conjunction};
+ghost use Rattle.sample_reference.specs.Leading.{under_names};
+ghost use Rattle.smt_theorems.specs.Resolved.{conjunction};
 
-use formula_store::{FormulaId, Shape, Store};
-use formula_tree::{Ids, Maker, VarId};
+use formula_store::{FormulaId, Store};
+use formula_tree::{Ids, Maker, Shape};
+use logic_meaning::VarId;
 use std::alloc::{AllocError, Global};
 
 /// The formulas joined by `and` under `ex` of the first so many names, the first one outermost.

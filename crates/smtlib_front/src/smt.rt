@@ -1,20 +1,20 @@
 ghost use Rattle.std.specs.Prelude.{◌≡◌, ◌≤◌};
-ghost use Rattle.smt_runs.specs.State.{State, first_state};
-ghost use Rattle.smt_runs.specs.Replies.{Replies};
-ghost use Rattle.smt_syntax.specs.CodeTrees.{command_tree};
-ghost use Rattle.smt_proper.specs.Commands.{HasProperNumbers};
+ghost use Rattle.program_meaning.specs.SmtState.{State, first_state};
+ghost use Rattle.program_meaning.specs.Replies.{Replies};
+ghost use Rattle.smt_tokens.specs.CodeTrees.{command_tree};
+ghost use Rattle.smt_theorems.specs.Commands.{HasProperNumbers};
 ghost use Rattle.smtlib_front.specs.Represents.{Represents};
 ghost use Rattle.smtlib_front.specs.Steps.{Does};
 
 use crate::kept::Kept;
-use atom_normal::Context;
 use engine_answers::Limits;
 use formula_store::{FormulaId, Store};
 use formula_tree::Names;
+use normal_atoms::Context;
+use program_meaning::{SmtError, SmtReply};
 use qe_parallel::Gate;
 use smt_reader::read_command;
-use smt_runs::{SmtError, SmtReply};
-use smt_syntax::SmtCommand;
+use smt_tokens::SmtCommand;
 use std::alloc::Global;
 use std::marker::Model;
 use std::thread::Threads;

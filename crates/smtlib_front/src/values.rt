@@ -2,19 +2,19 @@
 
 ghost use Rattle.std.specs.Prelude.{◌≡◌, not, is_some, position};
 ghost use Rattle.std.specs.List.{list_any};
-ghost use Rattle.qe_syntax.specs.Value.{same_name};
-ghost use Rattle.smt_runs.specs.State.{State};
-ghost use Rattle.smt_syntax.specs.Trees.{Values};
+ghost use Rattle.language_meaning.specs.Value.{same_name};
+ghost use Rattle.program_meaning.specs.SmtState.{State};
+ghost use Rattle.smt_language.specs.Trees.{Values};
 ghost use Rattle.smtlib_front.specs.Represents.{Represents};
 ghost use Rattle.smtlib_front.specs.Steps.{Does};
 
 use crate::kept::Kept;
 use crate::smt::Smt;
+use crate::smt_texts_values::values_text;
 use formula_tree::Names;
-use qe_syntax::Name;
+use logic_meaning::Name;
+use program_meaning::{SmtError, SmtReply};
 use redlog_printer::PrintError;
-use smt_runs::{SmtError, SmtReply};
-use smt_texts::values_text;
 
 impl Smt {
     /// Tells the values of these names, which the last check left.

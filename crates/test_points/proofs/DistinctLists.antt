@@ -2,10 +2,10 @@
 use Rattle.std.proofs.Common.{◌≡◌, Bool, true, false, ◌||◌, List, [], ◌∷◌, ◌++◌, map, refl, sym, ap, ap₂, ◌∙◌, subst, if◌then◌else◌, append_assoc, append-nil}
 use Rattle.std.proofs.lemmas.List.{map-append}
 use Rattle.std.specs.List.{list_any, fold}
-use Rattle.formula_meaning.specs.Some.{EachOf}
-use Rattle.formula_meaning.specs.Distinct.{without_same, distinct}
-use Rattle.formula_meaning.proofs.Once.{without_swap, without_twice, without_all, all_without, all_nothing}
-use Rattle.elimination_reference.proofs.FromEliminationTheory.{each_append}
+use Rattle.logic_meaning.specs.Some.{EachOf}
+use Rattle.logic_meaning.specs.Distinct.{without_same, distinct}
+use Rattle.formula_laws.proofs.Once.{without_swap, without_twice, without_all, all_without, all_nothing}
+use Rattle.elimination_theory.proofs.SomeListed.{each_append}
 use Rattle.indexmap.specs.IndexSet.{insert_key, insert_all}
 
 module _ {X : Type 0} (same : X → X → Bool) (sound : (x y : X) → same x y ≡ true → x ≡ y) where

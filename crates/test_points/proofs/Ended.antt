@@ -5,20 +5,23 @@ use Rattle.std.proofs.lemmas.Int.{ints}
 use Rattle.exact_numbers.specs.Limit.{InLimit}
 use Rattle.std.specs.Int.{w128, cast_signed, cast_unsigned}
 use Rattle.exact_numbers.proofs.Casts.{read_back}
-use Rattle.elimination_reference.proofs.FromEliminationTheory.{natural, combination_tested, combination_refused}
+use Rattle.elimination_theory.proofs.LowestTerms.{natural}
+use Rattle.elimination_theory.proofs.WithinTests.{combination_tested, combination_refused}
 use Rattle.std.proofs.Math.IntN.{ℤ, pos}
-use Rattle.formula_meaning.specs.Context.{Context, Fields, Integers}
-use Rattle.formula_meaning.specs.Form.{Form, coefficient, without}
-use Rattle.formula_meaning.specs.Combining.{CombinePasses}
-use Rattle.formula_meaning.specs.Atom.{Relation, Compare, Congruent}
-use Rattle.formula_meaning.specs.Tree.{Tree}
-use Rattle.formula_meaning.proofs.Same.{both_true}
-use Rattle.elimination_reference.specs.FromEliminationTheory.{form_at}
-use Rattle.formula_meaning.specs.Limits.{combination_within}
-use Rattle.elimination_reference.specs.Limits.{normal_within}
-use Rattle.elimination_reference.specs.FromLinearForms.{IsCombination}
-use Rattle.elimination_reference.specs.FromAtomNormal.{normal_atom, congruent, compared_in_fields, compared_over_integers, relation_of, Rel}
-use Rattle.formula_meaning.specs.Sorted.{gathered}
+use Rattle.logic_meaning.specs.Context.{Context, Fields, Integers}
+use Rattle.logic_meaning.specs.Form.{Form, coefficient, without}
+use Rattle.logic_meaning.specs.Combining.{CombinePasses}
+use Rattle.logic_meaning.specs.Atom.{Relation, Compare, Congruent}
+use Rattle.logic_meaning.specs.Tree.{Tree}
+use Rattle.formula_laws.proofs.Same.{both_true}
+use Rattle.logic_meaning.specs.Substitution.{form_at}
+use Rattle.logic_meaning.specs.Limits.{combination_within}
+use Rattle.logic_meaning.specs.StopLimits.{normal_within}
+use Rattle.linear_forms.specs.Combinations.{IsCombination}
+use Rattle.normal_atoms.specs.Atoms.{relation_of}
+use Rattle.normal_atoms.specs.declared.atoms.Rel.{Rel}
+use Rattle.logic_meaning.specs.NormalForm.{normal_atom, congruent, compared_in_fields, compared_over_integers}
+use Rattle.logic_meaning.specs.Sorted.{gathered}
 use Rattle.test_points.specs.declared.verdict.Verdict.{Verdict}
 use Rattle.test_points.specs.declared.verdict.Verdict.TheVariants.{Always, Never, Holds}
 use Rattle.test_points.specs.Substituted.{ended, ended_within}

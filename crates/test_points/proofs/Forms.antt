@@ -6,13 +6,18 @@ use Rattle.std.proofs.lemmas.Option.{slice_get-get_or}
 use Rattle.std.proofs.lemmas.Int.{ints}
 use Rattle.std.proofs.lemmas.List.{take_all}
 use Rattle.exact_numbers.specs.Limit.{InLimit}
-use Rattle.formula_meaning.specs.Form.{Form, Term, scaled, others, coefficient, without, scale}
-use Rattle.formula_meaning.specs.Sorted.{gathered}
-use Rattle.formula_meaning.proofs.Gathered.{gathered_combination, sorted_stays}
-use Rattle.elimination_reference.specs.FromEliminationTheory.{form_at}
-use Rattle.formula_meaning.proofs.Sorted.{scale_sorted}
-use Rattle.elimination_reference.specs.FromLinearForms.{VarId, term_of, terms_of, AllInLimit, IsLinear, IsCombination}
-use Rattle.elimination_reference.proofs.FromLinearForms.{terms_of-push, multiple_within, without_linear}
+use Rattle.logic_meaning.specs.Form.{Form, Term, scaled, others, coefficient, without, scale}
+use Rattle.logic_meaning.specs.Sorted.{gathered}
+use Rattle.formula_laws.proofs.Gathered.{gathered_combination, sorted_stays}
+use Rattle.logic_meaning.specs.Substitution.{form_at}
+use Rattle.formula_laws.proofs.Sorted.{scale_sorted}
+use Rattle.linear_forms.specs.Linear.{term_of, terms_of}
+use Rattle.linear_forms.specs.Combinations.{IsLinear, IsCombination}
+use Rattle.logic_meaning.specs.declared.form.VarId.{VarId}
+use Rattle.logic_meaning.specs.Terms.{AllInLimit}
+use Rattle.linear_forms.proofs.Peeling.{terms_of-push}
+use Rattle.linear_forms.proofs.Search.{multiple_within}
+use Rattle.linear_forms.proofs.Determined.{without_linear}
 
 pub coefficient_within : (x : ℕ) (f : Form) → IsLinear f → InLimit (coefficient x f)
 unfolding coefficient

@@ -5,4 +5,14 @@ pub mod DistinctLists
 pub mod Lowest
 pub mod Loops
 pub mod PutLaws
-pub mod FromEliminationReference
+pub mod Apart
+pub mod Beside
+pub mod Collected
+pub mod Congruences
+pub mod Counts
+pub mod Multiples
+pub mod PointLaws
+pub mod Rows
+pub mod Steps
+pub mod Whole
+pub mod FromEliminationTheory

@@ -6,10 +6,10 @@ use Rattle.std.proofs.lemmas.Int.{ints}
 use Rattle.exact_numbers.specs.Divides.{Divides, content_of}
 use Rattle.exact_numbers.specs.Division.{DividesAll}
 use Rattle.exact_numbers.proofs.Contents.{content_is}
-use Rattle.formula_meaning.specs.Form.{Form, Term, coefficients}
-use Rattle.elimination_reference.specs.FromLinearForms.{quotients, quotient}
-use Rattle.elimination_reference.specs.FromEliminationTheory.{numbers_of, divisor_of, terms_over, form_over}
-use Rattle.elimination_reference.proofs.FromEliminationTheory.{natural, lowest}
+use Rattle.logic_meaning.specs.Form.{Form, Term, coefficients}
+use Rattle.logic_meaning.specs.Reduction.{quotients, quotient}
+use Rattle.logic_meaning.specs.FieldsPoints.{numbers_of, divisor_of, terms_over, form_over}
+use Rattle.elimination_theory.proofs.LowestTerms.{natural, lowest}
 
 -- g is the greatest common divisor of the numbers of e over d
 pub record IsDivisor (g : ℤ) (e : Form) (d : ℤ) : Type 0 where

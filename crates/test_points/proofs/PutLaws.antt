@@ -1,20 +1,28 @@
 -- The laws of test points and of substitution, over what the program makes.
 use Rattle.std.proofs.Common.{◌≡◌, ℕ, zero, suc, List, map, sym, ap, ◌∙◌, subst, refl, ◌↔◌}
 use Rattle.std.proofs.Math.IntN.{ℤ, pos, negsuc}
-use Rattle.formula_meaning.specs.Context.{Context, Fields}
-use Rattle.formula_meaning.specs.Formula.{One}
-use Rattle.formula_meaning.specs.Some.{SomeOf}
-use Rattle.formula_meaning.specs.Form.{coefficient}
-use Rattle.formula_meaning.specs.Atom.{Atom, form_of}
-use Rattle.formula_meaning.specs.TheoryAtoms.{AtomIn}
-use Rattle.formula_meaning.specs.Answer.{Place}
-use Rattle.formula_meaning.specs.Tree.{TrueAt, IsFree}
-use Rattle.formula_meaning.specs.Equivalence.{Equivalent}
-use Rattle.elimination_reference.specs.FromEliminationTheory.{where_zero, IsPlaceIn, raw_atom, normalised, atom_at, field_points_of}
-use Rattle.elimination_reference.proofs.FromEliminationTheory.{IsSimple, simple_in, simple_plain, raw_simple, raw_still, normalised_equivalent, normalised_names, some_map, some_mapped, some_of_mapped, atom_substitution_exact, point_names, substitution_names}
-use Rattle.elimination_reference.proofs.FromEliminationTheory.fields_suffice_rules as suffice
-use Rattle.elimination_reference.proofs.Tidy.{normaliser}
-use Rattle.elimination_reference.specs.FromAtomNormal.{normal_atom, atom_of}
+use Rattle.logic_meaning.specs.Context.{Context, Fields}
+use Rattle.logic_meaning.specs.Formula.{One}
+use Rattle.logic_meaning.specs.Some.{SomeOf}
+use Rattle.logic_meaning.specs.Form.{coefficient}
+use Rattle.logic_meaning.specs.Atom.{Atom, form_of}
+use Rattle.formula_laws.specs.TheoryAtoms.{AtomIn}
+use Rattle.logic_meaning.specs.Answer.{Place}
+use Rattle.logic_meaning.specs.Tree.{TrueAt, IsFree}
+use Rattle.formula_laws.specs.Equivalence.{Equivalent}
+use Rattle.logic_meaning.specs.Substitution.{where_zero}
+use Rattle.logic_meaning.specs.BothTheories.{IsPlaceIn, raw_atom}
+use Rattle.logic_meaning.specs.Steps.{normalised, atom_at}
+use Rattle.logic_meaning.specs.FieldsPoints.{field_points_of}
+use Rattle.elimination_theory.proofs.Simple.{IsSimple, simple_in, simple_plain, raw_simple, raw_still}
+use Rattle.elimination_theory.proofs.OneStep.{normalised_equivalent, normalised_names}
+use Rattle.elimination_theory.proofs.SomeListed.{some_map, some_mapped, some_of_mapped}
+use Rattle.elimination_theory.proofs.FieldsSubstitute.{atom_substitution_exact}
+use Rattle.elimination_theory.proofs.IntegersNames.{point_names, substitution_names}
+use Rattle.elimination_theory.proofs.FieldsSuffice as suffice
+use Rattle.elimination_theory.proofs.Tidy.{normaliser}
+use Rattle.normal_atoms.specs.Atoms.{atom_of}
+use Rattle.logic_meaning.specs.NormalForm.{normal_atom}
 use Rattle.test_points.specs.declared.points.TestPoint.{TestPoint}
 use Rattle.test_points.specs.Points.{place_of}
 use Rattle.test_points.specs.Laws.{FieldPointsSuffice, FieldPointsKeepNames, FieldSubstitutionHolds, FieldSubstitutionKeepsNames}

@@ -5,10 +5,11 @@ use Rattle.std.specs.Prelude.{◌<ℤ◌}
 use Rattle.std.specs.Ordering.{int_eq}
 use Rattle.std.specs.Cmp.{signed_Decides}
 use Rattle.std.proofs.lemmas.Int.{ints}
-use Rattle.formula_meaning.specs.Form.{Form}
-use Rattle.formula_meaning.specs.Answer as meaning
-use Rattle.formula_meaning.proofs.Same.{and_left, and_right, both_true, place_same, place_alike}
-use Rattle.elimination_reference.specs.FromLinearForms.{VarId, form_eq, form_decides}
+use Rattle.logic_meaning.specs.Form.{Form}
+use Rattle.logic_meaning.specs.Answer as meaning
+use Rattle.formula_laws.proofs.Same.{and_left, and_right, both_true, place_same, place_alike}
+use Rattle.linear_forms.specs.Equality.{form_eq, form_decides}
+use Rattle.logic_meaning.specs.declared.form.VarId.{VarId}
 use Rattle.test_points.specs.declared.points.TestPoint.{TestPoint}
 use Rattle.test_points.specs.declared.points.Place.{Place}
 use Rattle.test_points.specs.declared.points.Place.TheVariants.{Exact, AboveBy, BelowBy, MinusInfinity, PlusInfinity, Periodic}

@@ -1,2 +1,2 @@
 -- What the crates above name of `elimination_theory`.
-pub use Rattle.elimination_reference.specs.FromEliminationTheory.{IsPlaceIn, atom_at, normalised, raw_atom, where_zero}
+pub use Rattle.elimination_theory.specs.StepTheorems.{trees_left}

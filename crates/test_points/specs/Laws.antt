@@ -1,17 +1,26 @@
 -- What the program's test points of the ordered fields and its substitutions say, as statements that functions promise.
 use Rattle.std.specs.Prelude.{◌≡◌, ℕ, ◌↔◌, List, map}
-use Rattle.formula_meaning.specs.Context.{Fields}
-use Rattle.formula_meaning.specs.Point.{Point, Of}
-use Rattle.formula_meaning.specs.Formula.{Ex, One as Single}
-use Rattle.formula_meaning.specs.Some.{SomeOf}
-use Rattle.formula_meaning.specs.Plain.{IsPlain}
-use Rattle.formula_meaning.specs.TheoryAtoms.{AtomIn}
-use Rattle.formula_meaning.specs.Answer.{Holds, PlaceMentions}
-use Rattle.formula_meaning.specs.Tree.{Tree, TrueAt, IsFree}
-use Rattle.formula_meaning.specs.Equivalence.{InContext}
-use Rattle.elimination_reference.specs.FromEliminationTheory.{atoms_of, at_place, field_points_of, IsFieldPlace, IsNameOf, atom_at, Side}
-use Rattle.elimination_reference.specs.FromLinearForms.{VarId}
-use Rattle.elimination_reference.specs.FromAtomNormal.{normal_atom, atom_of, tree_of, Atom, Normal}
+use Rattle.logic_meaning.specs.Context.{Fields}
+use Rattle.logic_meaning.specs.Point.{Point, Of}
+use Rattle.logic_meaning.specs.Formula.{Ex, One as Single}
+use Rattle.logic_meaning.specs.Some.{SomeOf}
+use Rattle.logic_meaning.specs.Plain.{IsPlain}
+use Rattle.formula_laws.specs.TheoryAtoms.{AtomIn}
+use Rattle.logic_meaning.specs.Answer.{Holds, PlaceMentions}
+use Rattle.logic_meaning.specs.Tree.{Tree, TrueAt, IsFree}
+use Rattle.formula_laws.specs.Equivalence.{InContext}
+use Rattle.elimination_theory.specs.AtPlace.{at_place}
+use Rattle.elimination_theory.specs.NamesTheorems.{IsNameOf}
+use Rattle.logic_meaning.specs.Atoms.{atoms_of}
+use Rattle.logic_meaning.specs.FieldsPoints.{field_points_of}
+use Rattle.logic_meaning.specs.FieldsSubstitution.{IsFieldPlace}
+use Rattle.logic_meaning.specs.Steps.{atom_at}
+use Rattle.logic_meaning.specs.declared.side.Side.{Side}
+use Rattle.logic_meaning.specs.declared.form.VarId.{VarId}
+use Rattle.normal_atoms.specs.Atoms.{atom_of, tree_of}
+use Rattle.normal_atoms.specs.declared.atoms.Atom.{Atom}
+use Rattle.normal_atoms.specs.declared.atoms.Normal.{Normal}
+use Rattle.logic_meaning.specs.NormalForm.{normal_atom}
 use Rattle.test_points.specs.declared.points.TestPoint.{TestPoint}
 use Rattle.test_points.specs.Points.{place_of}
 

@@ -1,9 +1,10 @@
 -- What the program's test points mean.
 use Rattle.std.specs.Prelude.{◌≡◌, ℕ, ℤ, pos, ◌<ℤ◌, [], unsigned_abs}
 use Rattle.exact_numbers.specs.Limit.{InLimit}
-use Rattle.formula_meaning.specs.Form.{Form}
-use Rattle.formula_meaning.specs.Answer as meaning
-use Rattle.elimination_reference.specs.FromLinearForms.{VarId, IsLinear}
+use Rattle.logic_meaning.specs.Form.{Form}
+use Rattle.logic_meaning.specs.Answer as meaning
+use Rattle.linear_forms.specs.Combinations.{IsLinear}
+use Rattle.logic_meaning.specs.declared.form.VarId.{VarId}
 use Rattle.test_points.specs.declared.points.Place.{Place}
 use Rattle.test_points.specs.declared.points.Place.TheVariants.{Exact, AboveBy, BelowBy, MinusInfinity, PlusInfinity, Periodic}
 use Rattle.test_points.specs.declared.points.TestPoint.{TestPoint}

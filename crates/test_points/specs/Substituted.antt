@@ -1,14 +1,16 @@
 -- An atom that has the name, at a place: its formula in normal form, and whether the numbers formed for it are within the limit.
 use Rattle.std.specs.Prelude.{ℕ, pos, Bool, ◌&&◌}
-use Rattle.formula_meaning.specs.Context.{Context}
-use Rattle.formula_meaning.specs.Form.{Form, coefficient, without}
-use Rattle.formula_meaning.specs.Atom.{Atom}
-use Rattle.formula_meaning.specs.Answer.{Place}
-use Rattle.formula_meaning.specs.Tree.{Tree}
-use Rattle.elimination_reference.specs.FromEliminationTheory.{form_at, raw_atom, normalised}
-use Rattle.formula_meaning.specs.Limits.{combination_within}
-use Rattle.elimination_reference.specs.Limits.{numbers_within, normal_within}
-use Rattle.elimination_reference.specs.FromAtomNormal.{normal_atom}
+use Rattle.logic_meaning.specs.Context.{Context}
+use Rattle.logic_meaning.specs.Form.{Form, coefficient, without}
+use Rattle.logic_meaning.specs.Atom.{Atom}
+use Rattle.logic_meaning.specs.Answer.{Place}
+use Rattle.logic_meaning.specs.Tree.{Tree}
+use Rattle.logic_meaning.specs.Substitution.{form_at}
+use Rattle.logic_meaning.specs.BothTheories.{raw_atom}
+use Rattle.logic_meaning.specs.Steps.{normalised}
+use Rattle.logic_meaning.specs.Limits.{combination_within}
+use Rattle.logic_meaning.specs.StopLimits.{numbers_within, normal_within}
+use Rattle.logic_meaning.specs.NormalForm.{normal_atom}
 use Rattle.test_points.specs.Verdicts.{verdict_tree}
 use Rattle.test_points.specs.declared.verdict.Verdict.{Verdict}
 

@@ -1,9 +1,9 @@
 -- A comparison that is always true, never, or a relation of a form to 0, as a formula.
-use Rattle.formula_meaning.specs.Formula.{Yes, No, One}
-use Rattle.formula_meaning.specs.Form.{Form}
-use Rattle.formula_meaning.specs.Atom.{Compare}
-use Rattle.formula_meaning.specs.Tree.{Tree}
-use Rattle.elimination_reference.specs.FromAtomNormal.{relation_of}
+use Rattle.logic_meaning.specs.Formula.{Yes, No, One}
+use Rattle.logic_meaning.specs.Form.{Form}
+use Rattle.logic_meaning.specs.Atom.{Compare}
+use Rattle.logic_meaning.specs.Tree.{Tree}
+use Rattle.normal_atoms.specs.Atoms.{relation_of}
 use Rattle.test_points.specs.declared.verdict.Verdict.{Verdict}
 use Rattle.test_points.specs.declared.verdict.Verdict.TheVariants.{Always, Never, Holds}
 

@@ -1,11 +1,12 @@
 // A comparison with a name put at a test point, in both theories.
 ghost use Rattle.std.specs.Prelude.{◌≡◌, pos, true, false, unsigned_abs, IfOk, IsErrOf};
-ghost use Rattle.formula_meaning.specs.Form.{coefficient};
-ghost use Rattle.formula_meaning.specs.Atom.{Compare};
-ghost use Rattle.formula_meaning.specs.TheoryAtoms.{AtomIn};
-ghost use Rattle.elimination_reference.specs.FromEliminationTheory.{IsPlaceIn};
-ghost use Rattle.elimination_reference.specs.Limits.{normal_within};
-ghost use Rattle.elimination_reference.specs.FromAtomNormal.{normal_atom, atom_of, context_of, relation_of, tree_of, IsWellFormed, IsWellFormedNormal};
+ghost use Rattle.logic_meaning.specs.Form.{coefficient};
+ghost use Rattle.logic_meaning.specs.Atom.{Compare};
+ghost use Rattle.formula_laws.specs.TheoryAtoms.{AtomIn};
+ghost use Rattle.logic_meaning.specs.BothTheories.{IsPlaceIn};
+ghost use Rattle.logic_meaning.specs.StopLimits.{normal_within};
+ghost use Rattle.normal_atoms.specs.Atoms.{atom_of, context_of, relation_of, tree_of, IsWellFormed, IsWellFormedNormal};
+ghost use Rattle.logic_meaning.specs.NormalForm.{normal_atom};
 ghost use Rattle.test_points.specs.Points.{place_of, IsTestPoint};
 ghost use Rattle.test_points.specs.Substituted.{put_at, put_within, ended, ended_within};
 
@@ -13,7 +14,8 @@ use crate::error::PointError;
 use crate::parts::form_at;
 use crate::points::{Place, TestPoint};
 use crate::verdict::{Verdict, beside, constant, far_out};
-use elimination_reference::{Atom, AtomError, Context, LinError, Linear, Normal, Rel, normal};
+use linear_forms::{LinError, Linear};
+use normal_atoms::{Atom, AtomError, Context, Normal, Rel, normal};
 use std::alloc::Global;
 
 /// The normal form of an atom. `Overflow` comes exactly where its constant passes 2^127 - 1, else `Memory`.

@@ -1,12 +1,12 @@
 // Lists of test points, with and without repeats.
 ghost use Rattle.std.specs.Prelude.{◌≡◌, [], ◌∷◌, ◌++◌, All, map, is_ok, if◌then◌else◌, IfOk};
-ghost use Rattle.formula_meaning.specs.Answer.{same_place};
-ghost use Rattle.formula_meaning.specs.Distinct.{distinct};
+ghost use Rattle.logic_meaning.specs.Answer.{same_place};
+ghost use Rattle.logic_meaning.specs.Distinct.{distinct};
 ghost use Rattle.test_points.specs.Points.{place_of, IsPointOf};
 
 use crate::points::TestPoint;
-use elimination_reference::VarId;
 use indexmap::IndexSet;
+use logic_meaning::VarId;
 use std::alloc::{AllocError, Global};
 
 /// Puts a test point last. After an error the list is as before.

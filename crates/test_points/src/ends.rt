@@ -4,16 +4,19 @@ ghost use Rattle.std.specs.Option.{option_to_list};
 ghost use Rattle.exact_numbers.specs.Limit.{InLimit};
 ghost use Rattle.exact_numbers.specs.Divides.{Divides};
 ghost use Rattle.exact_numbers.specs.Division.{DividesAll};
-ghost use Rattle.formula_meaning.specs.Form.{Form, coefficient, coefficients, without};
-ghost use Rattle.formula_meaning.specs.Atom.{mirrored};
-ghost use Rattle.elimination_reference.specs.FromEliminationTheory.{turned, divisor_of, form_over, ends_of, comparison_points, atom_points};
-ghost use Rattle.elimination_reference.specs.FromAtomNormal.{atom_of, relation_of};
+ghost use Rattle.logic_meaning.specs.Form.{Form, coefficient, coefficients, without};
+ghost use Rattle.logic_meaning.specs.Atom.{mirrored};
+ghost use Rattle.logic_meaning.specs.Side.{turned};
+ghost use Rattle.logic_meaning.specs.FieldsPoints.{divisor_of, form_over, ends_of, comparison_points, atom_points};
+ghost use Rattle.normal_atoms.specs.Atoms.{atom_of, relation_of};
 ghost use Rattle.test_points.specs.Points.{place_at, place_of, IsShaped, IsPointOf};
 
 use crate::parts::rest;
 use crate::points::{Place, TestPoint};
-use elimination_reference::{Atom, Linear, Rel, Side, VarId};
 use exact_numbers::gcd;
+use linear_forms::Linear;
+use logic_meaning::{Side, VarId};
+use normal_atoms::{Atom, Rel};
 use std::alloc::{AllocError, Global};
 
 // The relation of two numbers that change places, where they do.

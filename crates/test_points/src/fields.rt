@@ -1,14 +1,16 @@
 // Test points of the ordered fields.
 ghost use Rattle.std.specs.Prelude.{◌≡◌, All, map, IfOk, IfErr};
-ghost use Rattle.elimination_reference.specs.FromEliminationTheory.{infinity_of, field_points_of};
-ghost use Rattle.elimination_reference.specs.FromAtomNormal.{atom_of};
+ghost use Rattle.logic_meaning.specs.FieldsPoints.{infinity_of, field_points_of};
+ghost use Rattle.normal_atoms.specs.Atoms.{atom_of};
 ghost use Rattle.test_points.specs.Points.{place_of, IsPointOf};
 
 use crate::distinct::{distinct_points, push_point};
 use crate::ends::atom_end;
 use crate::error::PointError;
 use crate::points::{Place, TestPoint};
-use elimination_reference::{Atom, Linear, Side, VarId};
+use linear_forms::Linear;
+use logic_meaning::{Side, VarId};
+use normal_atoms::Atom;
 use std::alloc::Global;
 
 // The infinity of the side.

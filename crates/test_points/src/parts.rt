@@ -1,10 +1,13 @@
 // Forms with a name put at a form over a number.
 ghost use Rattle.std.specs.Prelude.{◌≡◌, negsuc, neg_ℤ, if◌then◌else◌, IfOk, IsErrOf};
 ghost use Rattle.exact_numbers.specs.Limit.{InLimit};
-ghost use Rattle.formula_meaning.specs.Form.{coefficient, others, scaled, without, scale};
-ghost use Rattle.elimination_reference.specs.FromLinearForms.{CombinePasses, IsLinear, IsCombination, terms_of};
+ghost use Rattle.logic_meaning.specs.Form.{coefficient, others, scaled, without, scale};
+ghost use Rattle.linear_forms.specs.Combinations.{IsLinear, IsCombination};
+ghost use Rattle.linear_forms.specs.Linear.{terms_of};
+ghost use Rattle.logic_meaning.specs.Terms.{CombinePasses};
 
-use elimination_reference::{LinError, Linear, VarId};
+use linear_forms::{LinError, Linear};
+use logic_meaning::VarId;
 use std::alloc::{AllocError, Global};
 
 // The number, or the one with the other sign.

@@ -1,7 +1,8 @@
 // Test points: where a name is put.
 ghost use Rattle.std.specs.Prelude.{◌≡◌, IfOk};
 
-use elimination_reference::{Linear, VarId};
+use linear_forms::Linear;
+use logic_meaning::VarId;
 use std::alloc::{AllocError, Global};
 
 /// How a test point lies: at a form over a number, infinitesimally above or below it, beyond all numbers, or beyond all

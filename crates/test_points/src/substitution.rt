@@ -1,16 +1,18 @@
 // An atom with a name put at a test point of the ordered fields.
 ghost use Rattle.std.specs.Prelude.{◌≡◌, true, false, IfOk, IsErrOf};
-ghost use Rattle.formula_meaning.specs.Context.{Fields};
-ghost use Rattle.formula_meaning.specs.TheoryAtoms.{AtomIn};
-ghost use Rattle.elimination_reference.specs.FromEliminationTheory.{IsFieldPlace, atom_at};
-ghost use Rattle.elimination_reference.specs.Limits.{atom_within};
-ghost use Rattle.elimination_reference.specs.FromAtomNormal.{normal_atom, atom_of, tree_of, IsWellFormed, IsWellFormedNormal};
+ghost use Rattle.logic_meaning.specs.Context.{Fields};
+ghost use Rattle.formula_laws.specs.TheoryAtoms.{AtomIn};
+ghost use Rattle.logic_meaning.specs.FieldsSubstitution.{IsFieldPlace};
+ghost use Rattle.logic_meaning.specs.Steps.{atom_at};
+ghost use Rattle.logic_meaning.specs.StopLimits.{atom_within};
+ghost use Rattle.normal_atoms.specs.Atoms.{atom_of, tree_of, IsWellFormed, IsWellFormedNormal};
+ghost use Rattle.logic_meaning.specs.NormalForm.{normal_atom};
 ghost use Rattle.test_points.specs.Points.{place_of, IsTestPoint};
 
 use crate::comparing::comparison_at;
 use crate::error::PointError;
 use crate::points::TestPoint;
-use elimination_reference::{Atom, Context, Normal};
+use normal_atoms::{Atom, Context, Normal};
 use std::alloc::{AllocError, Global};
 
 /// The atom as it is.

@@ -1,12 +1,14 @@
 // What a comparison says of a number infinitesimally beside another, and of one beyond all numbers.
 ghost use Rattle.std.specs.Prelude.{◌≡◌, if◌then◌else◌};
-ghost use Rattle.formula_meaning.specs.Form.{Form};
-ghost use Rattle.formula_meaning.specs.Atom.{mirrored};
-ghost use Rattle.elimination_reference.specs.FromEliminationTheory.{just_above, just_below, below_all};
-ghost use Rattle.elimination_reference.specs.FromAtomNormal.{constant_tree, relation_of, tree_of, IsWellFormedNormal};
+ghost use Rattle.logic_meaning.specs.Form.{Form};
+ghost use Rattle.logic_meaning.specs.Atom.{mirrored};
+ghost use Rattle.logic_meaning.specs.FieldsSubstitution.{just_above, just_below};
+ghost use Rattle.logic_meaning.specs.Substitution.{below_all};
+ghost use Rattle.normal_atoms.specs.Atoms.{relation_of, tree_of, IsWellFormedNormal};
+ghost use Rattle.logic_meaning.specs.NormalForm.{constant_tree};
 ghost use Rattle.test_points.specs.Verdicts.{verdict_tree};
 
-use elimination_reference::{Normal, Rel};
+use normal_atoms::{Normal, Rel};
 
 // A comparison is always true, never, or says a relation of a form to 0.
 #[derive(Clone, Copy)]

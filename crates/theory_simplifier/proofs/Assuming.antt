@@ -1,15 +1,15 @@
 -- The assumptions, and what formulas in order have.
 use Rattle.std.proofs.Common.{◌≡◌, refl, ap, ◌∙◌, List, [], ◌∷◌, map, append-nil}
-use Rattle.formula_meaning.specs.Context.{Context}
-use Rattle.formula_meaning.specs.Formula.{Yes, No, One, Not, And, Or, Impl, Repl, Equiv, Ex, All, none, also}
-use Rattle.formula_meaning.specs.Every.{Every, EveryOf}
-use Rattle.formula_meaning.specs.declared.junction.Junction.TheVariants.{Conjunction}
-use Rattle.formula_meaning.specs.Atom.{Atom}
-use Rattle.formula_meaning.specs.Tree.{Tree, Trees}
-use Rattle.atom_normal.specs.NormalForm.{IsNormal, negated_normal}
-use Rattle.atom_merging.specs.Computed.{IsNormalWithin}
-use Rattle.simplified_formulas.specs.Atoms.{tells}
-use Rattle.simplified_formulas.specs.Orderly.{IsOrderly, AreOrderly}
+use Rattle.logic_meaning.specs.Context.{Context}
+use Rattle.logic_meaning.specs.Formula.{Yes, No, One, Not, And, Or, Impl, Repl, Equiv, Ex, All, none, also}
+use Rattle.logic_meaning.specs.Every.{Every, EveryOf}
+use Rattle.logic_meaning.specs.declared.junction.Junction.TheVariants.{Conjunction}
+use Rattle.logic_meaning.specs.Atom.{Atom}
+use Rattle.logic_meaning.specs.Tree.{Tree, Trees}
+use Rattle.logic_meaning.specs.NormalForm.{IsNormal, negated_normal}
+use Rattle.normal_atoms.specs.Computed.{IsNormalWithin}
+use Rattle.logic_meaning.specs.AtomKit.{tells}
+use Rattle.shape_theory.specs.Orderly.{IsOrderly, AreOrderly}
 use Rattle.theory_simplifier.specs.declared.known.Frame.TheVariants.{Beside}
 use Rattle.theory_simplifier.specs.Known.{known_atoms}
 

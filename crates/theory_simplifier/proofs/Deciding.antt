@@ -1,7 +1,7 @@
 -- What several lists of known atoms say of an atom, and which known atoms can say anything.
 use Rattle.std.proofs.Common.{◌≡◌, Bool, refl, sym, ap, ◌∙◌, Option, Some, None, List, [], ◌∷◌, ◌++◌}
-use Rattle.simplified_formulas.specs.Kit.{Kit}
-use Rattle.simplified_formulas.specs.Pass.{first_answer, decided}
+use Rattle.shape_theory.specs.Kit.{Kit}
+use Rattle.shape_theory.specs.Pass.{first_answer, decided}
 
 module _ {A : Type 0} (kit : Kit A) where
   first_more : (o p q : Option Bool) → first_answer o (first_answer p q) ≡ first_answer (first_answer o p) q

@@ -2,11 +2,11 @@
 use Rattle.std.proofs.Common.{◌≡◌, ℕ, zero, suc, ◌+◌, ◌<◌, ◌≤◌, Bool, true, false, refl, sym, ap, ◌∙◌, List, [], ◌∷◌, ◌++◌, length, take, drop, map, get_or, arith}
 use Rattle.std.proofs.lemmas.List.{take_more}
 use Rattle.std.specs.Prelude.{◌||◌}
-use Rattle.formula_meaning.specs.Sizes.{nodes, all_nodes}
-use Rattle.formula_meaning.specs.Atom.{Atom}
-use Rattle.formula_meaning.specs.Tree.{Tree}
-use Rattle.simplified_formulas.specs.Kit.{Kit}
-use Rattle.simplified_formulas.specs.Pass.{is_free, is_free_in_some}
+use Rattle.logic_meaning.specs.Sizes.{nodes, all_nodes}
+use Rattle.logic_meaning.specs.Atom.{Atom}
+use Rattle.logic_meaning.specs.Tree.{Tree}
+use Rattle.shape_theory.specs.Kit.{Kit}
+use Rattle.shape_theory.specs.Pass.{is_free, is_free_in_some}
 use Rattle.formula_tree.specs.Trees.{members}
 use Rattle.theory_simplifier.proofs.Entries.{split_at}
 

@@ -4,14 +4,14 @@ use Rattle.std.proofs.Math.ListN.{set}
 use Rattle.std.specs.Prelude.{if◌then◌else◌}
 use Rattle.std.specs.List.{AllByRecursion}
 use Rattle.std.proofs.lemmas.List.{take_more, take_all}
-use Rattle.formula_meaning.specs.Context.{Context}
-use Rattle.formula_meaning.specs.Some.{EachOf}
-use Rattle.formula_meaning.specs.Atom as meant
-use Rattle.formula_meaning.specs.declared.junction.Junction.{Junction}
-use Rattle.atom_normal.specs.Atoms.{atom_of}
-use Rattle.atom_normal.specs.NormalForm.{negated_normal}
-use Rattle.atom_merging.specs.Computed.{IsNormalWithin}
-use Rattle.simplified_formulas.specs.Atoms.{tells}
+use Rattle.logic_meaning.specs.Context.{Context}
+use Rattle.logic_meaning.specs.Some.{EachOf}
+use Rattle.logic_meaning.specs.Atom as meant
+use Rattle.logic_meaning.specs.declared.junction.Junction.{Junction}
+use Rattle.normal_atoms.specs.Atoms.{atom_of}
+use Rattle.logic_meaning.specs.NormalForm.{negated_normal}
+use Rattle.normal_atoms.specs.Computed.{IsNormalWithin}
+use Rattle.logic_meaning.specs.AtomKit.{tells}
 use Rattle.theory_simplifier.specs.declared.joined.Entry.{Entry}
 use Rattle.theory_simplifier.specs.Listed.{Listed, entry_atom, IsEntry}
 use Rattle.theory_simplifier.specs.VariableParts.{part_number}

@@ -7,13 +7,13 @@ use Rattle.std.specs.Prelude.{IfOk}
 use Rattle.std.specs.declared.result.Result.{Result}
 use Rattle.std.specs.declared.result.Result.TheVariants.{Ok, Err}
 use Rattle.std.specs.List.{AllByRecursion}
-use Rattle.formula_meaning.specs.Formula.{One, also}
-use Rattle.formula_meaning.specs.Fold.{from_pieces}
-use Rattle.formula_meaning.specs.declared.junction.Junction.{Junction}
-use Rattle.formula_meaning.specs.declared.junction.Junction.TheVariants.{Conjunction, Disjunction}
-use Rattle.formula_meaning.specs.Atom.{Atom}
-use Rattle.formula_meaning.specs.Tree.{Tree}
-use Rattle.simplified_formulas.specs.AtomsFirst.{ones}
+use Rattle.logic_meaning.specs.Formula.{One, also}
+use Rattle.logic_meaning.specs.Fold.{from_pieces}
+use Rattle.logic_meaning.specs.declared.junction.Junction.{Junction}
+use Rattle.logic_meaning.specs.declared.junction.Junction.TheVariants.{Conjunction, Disjunction}
+use Rattle.logic_meaning.specs.Atom.{Atom}
+use Rattle.logic_meaning.specs.Tree.{Tree}
+use Rattle.logic_meaning.specs.AtomsFirst.{ones}
 use Rattle.formula_tree.specs.declared.shape.Shape.{Shape}
 use Rattle.formula_tree.specs.Makers.{Keeps}
 use Rattle.formula_tree.specs.Shapes.{tree_over}

@@ -15,4 +15,3 @@ pub mod Placing
 pub mod Indexed
 pub mod Staying
 pub mod PartNumbers
-pub mod FromSimplifiedTexts

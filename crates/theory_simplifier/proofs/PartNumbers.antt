@@ -2,8 +2,8 @@
 use Rattle.std.proofs.Common.{◌≡◌, ℕ, suc, ◌+◌, ◌≤◌, refl, sym, ap, ◌∙◌, Option, Some, List, [], ◌∷◌, length, drop, slice_get, arith}
 use Rattle.std.proofs.Math.IntN.{ℤ}
 use Rattle.std.specs.Prelude.{option_map}
-use Rattle.formula_meaning.specs.Form.{Term}
-use Rattle.linear_forms.specs.declared.form.VarId.{VarId}
+use Rattle.logic_meaning.specs.Form.{Term}
+use Rattle.logic_meaning.specs.declared.form.VarId.{VarId}
 use Rattle.linear_forms.specs.Linear.{term_of}
 use Rattle.theory_simplifier.specs.VariableParts.{mixed, magnitude, sign_of, number_from}
 use Rattle.theory_simplifier.proofs.Staying.{drop_next, drop_all}

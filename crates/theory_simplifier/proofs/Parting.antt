@@ -6,24 +6,24 @@ use Rattle.std.specs.Prelude.{if◌then◌else◌}
 use Rattle.exact_numbers.proofs.Ring.{mul_zero}
 use Rattle.exact_numbers.proofs.Order.{cancel}
 use Rattle.exact_numbers.proofs.Contents.{content_is}
-use Rattle.formula_meaning.specs.Context.{Context}
-use Rattle.formula_meaning.specs.Some.{EachOf}
-use Rattle.formula_meaning.specs.Form.{Form, multiple, coefficient}
-use Rattle.formula_meaning.specs.Atom.{Relation, Atom, Compare, Congruent, Mentions}
-use Rattle.linear_forms.specs.Terms.{coefficients}
+use Rattle.logic_meaning.specs.Context.{Context}
+use Rattle.logic_meaning.specs.Some.{EachOf}
+use Rattle.logic_meaning.specs.Form.{Form, multiple, coefficient}
+use Rattle.logic_meaning.specs.Atom.{Relation, Atom, Compare, Congruent, Mentions}
+use Rattle.logic_meaning.specs.Terms.{coefficients}
 use Rattle.linear_forms.proofs.Quotients.{multiple_quotients}
-use Rattle.atom_normal.specs.NormalForm.{IsNormal}
-use Rattle.atom_merging.specs.Merging.{variable_part, SamePart}
-use Rattle.atom_merging.specs.Merged.{IsDecision}
-use Rattle.atom_merging.specs.Computed.{IsNormalWithin, decided_by}
-use Rattle.atom_merging.proofs.Thresholds.{content_positive_in}
-use Rattle.atom_merging.proofs.JoinedComparisons.{content, normal_content}
-use Rattle.atom_merging.proofs.Computed.{decided_right}
-use Rattle.simplified_formulas.specs.Atoms.{without}
-use Rattle.simplified_formulas.specs.AtomKit.{atom_kit}
-use Rattle.simplified_formulas.specs.Contained.{contains}
-use Rattle.simplified_formulas.specs.Pass.{first_answer, decided}
-use Rattle.simplified_formulas.proofs.AtomLaws.{names_told}
+use Rattle.logic_meaning.specs.NormalForm.{IsNormal}
+use Rattle.logic_meaning.specs.Merging.{variable_part, SamePart}
+use Rattle.normal_atoms.specs.Merged.{IsDecision}
+use Rattle.normal_atoms.specs.Computed.{IsNormalWithin, decided_by}
+use Rattle.normal_atoms.proofs.Thresholds.{content_positive_in}
+use Rattle.normal_atoms.proofs.JoinedComparisons.{content, normal_content}
+use Rattle.normal_atoms.proofs.Computed.{decided_right}
+use Rattle.logic_meaning.specs.AtomKit.{without}
+use Rattle.shape_theory.specs.AtomKit.{atom_kit}
+use Rattle.logic_meaning.specs.Contained.{contains}
+use Rattle.shape_theory.specs.Pass.{first_answer, decided}
+use Rattle.shape_theory.proofs.AtomLaws.{names_told}
 
 pub content_nonzero : (c : Context) (r : Relation) (f : Form) → IsNormal c (Compare r f) → ¬ (content f ≡ pos 0)
 content_nonzero c r f n = let p = content_positive_in c (content f) (normal_content c r f n) in λ (e : content f ≡ pos 0). omega (arith, ints)

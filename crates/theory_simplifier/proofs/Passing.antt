@@ -3,31 +3,31 @@ use Rattle.std.proofs.Common.{◌≡◌, true, false, refl, sym, ap, ◌∙◌, 
 use Rattle.std.specs.Prelude.{IfSome, IfNone, OnOk}
 use Rattle.std.specs.declared.result.Result.{Result}
 use Rattle.std.specs.declared.result.Result.TheVariants.{Ok, Err}
-use Rattle.formula_meaning.specs.Context.{Context}
-use Rattle.formula_meaning.specs.Formula.{One, Ex, All, none, also}
-use Rattle.formula_meaning.specs.Fold.{pieces_of}
-use Rattle.formula_meaning.specs.declared.junction.Junction.{Junction}
-use Rattle.formula_meaning.specs.Atom.{Atom, Mentions}
-use Rattle.formula_meaning.specs.Tree.{Tree, Trees}
-use Rattle.linear_forms.specs.declared.form.VarId.{VarId}
-use Rattle.atom_normal.specs.NormalForm.{negated_normal}
-use Rattle.atom_merging.specs.Computed.{IsNormalWithin}
-use Rattle.simplified_formulas.specs.Atoms.{without, tells}
-use Rattle.simplified_formulas.specs.AtomKit.{atom_kit}
-use Rattle.simplified_formulas.specs.Contained.{contains}
-use Rattle.simplified_formulas.specs.Pass as meant
-use Rattle.simplified_formulas.specs.Simplifiable.{IsSimplifiable}
-use Rattle.simplified_formulas.proofs.Keeps.{pass_within}
-use Rattle.simplified_formulas.proofs.AtomLaws.{merges_within, names_told}
+use Rattle.logic_meaning.specs.Context.{Context}
+use Rattle.logic_meaning.specs.Formula.{One, Ex, All, none, also}
+use Rattle.logic_meaning.specs.Fold.{pieces_of}
+use Rattle.logic_meaning.specs.declared.junction.Junction.{Junction}
+use Rattle.logic_meaning.specs.Atom.{Atom, Mentions}
+use Rattle.logic_meaning.specs.Tree.{Tree, Trees}
+use Rattle.logic_meaning.specs.declared.form.VarId.{VarId}
+use Rattle.logic_meaning.specs.NormalForm.{negated_normal}
+use Rattle.normal_atoms.specs.Computed.{IsNormalWithin}
+use Rattle.logic_meaning.specs.AtomKit.{without, tells}
+use Rattle.shape_theory.specs.AtomKit.{atom_kit}
+use Rattle.logic_meaning.specs.Contained.{contains}
+use Rattle.shape_theory.specs.Pass as meant
+use Rattle.shape_theory.specs.Simplifiable.{IsSimplifiable}
+use Rattle.shape_theory.proofs.Keeps.{pass_within}
+use Rattle.shape_theory.proofs.AtomLaws.{merges_within, names_told}
 use Rattle.formula_tree.specs.declared.shape.Shape.{Shape}
 use Rattle.formula_tree.specs.Makers.{Keeps}
 use Rattle.formula_tree.specs.Shapes.{tree_over}
 use Rattle.formula_tree.specs.Trees.{members}
 use Rattle.formula_store.specs.declared.id.FormulaId.{FormulaId}
 use Rattle.formula_store.specs.Nodes.{tree, IsId}
-use Rattle.formula_meaning.specs.Shape.{quantified}
-use Rattle.formula_meaning.specs.declared.quantifier.Quantifier.{Quantifier}
-use Rattle.formula_meaning.specs.declared.quantifier.Quantifier.TheVariants.{Exists, ForAll}
+use Rattle.logic_meaning.specs.Shape.{quantified}
+use Rattle.logic_meaning.specs.declared.quantifier.Quantifier.{Quantifier}
+use Rattle.logic_meaning.specs.declared.quantifier.Quantifier.TheVariants.{Exists, ForAll}
 use Rattle.theory_simplifier.specs.declared.known.Frame.{Frame}
 use Rattle.theory_simplifier.specs.declared.known.Frame.TheVariants.{Beside, Under}
 use Rattle.theory_simplifier.specs.declared.parts.Parts.{Parts}

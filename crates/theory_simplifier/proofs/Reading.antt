@@ -3,19 +3,19 @@ use Rattle.std.proofs.Common.{◌≡◌, ℕ, zero, suc, ◌<◌, Bool, true, fa
 use Rattle.std.specs.Prelude.{if◌then◌else◌, pos, ◌-ℤ◌}
 use Rattle.std.specs.Option.{is_some}
 use Rattle.exact_numbers.specs.Divides.{residue_of}
-use Rattle.formula_meaning.specs.Context.{Context}
-use Rattle.formula_meaning.specs.Some.{EachOf}
-use Rattle.formula_meaning.specs.Form.{Form}
-use Rattle.formula_meaning.specs.Atom.{Atom, Compare, Congruent}
-use Rattle.formula_meaning.specs.declared.junction.Junction.{Junction}
-use Rattle.formula_meaning.specs.declared.junction.Junction.TheVariants.{Conjunction, Disjunction}
+use Rattle.logic_meaning.specs.Context.{Context}
+use Rattle.logic_meaning.specs.Some.{EachOf}
+use Rattle.logic_meaning.specs.Form.{Form}
+use Rattle.logic_meaning.specs.Atom.{Atom, Compare, Congruent}
+use Rattle.logic_meaning.specs.declared.junction.Junction.{Junction}
+use Rattle.logic_meaning.specs.declared.junction.Junction.TheVariants.{Conjunction, Disjunction}
 use Rattle.linear_forms.specs.Equality.{form_eq, form_decides}
-use Rattle.atom_normal.specs.NormalForm.{IsNormal, negated_normal, congruence}
-use Rattle.atom_merging.specs.Computed.{IsNormalWithin, Kept, Into, merged, decided_by}
-use Rattle.atom_merging.proofs.Computed.{ComesOf, compared, congruent, merged_comes}
-use Rattle.simplified_formulas.specs.Atoms.{tells}
-use Rattle.simplified_formulas.specs.AtomKit.{atom_kit}
-use Rattle.simplified_formulas.specs.Pass.{first_answer, decided}
+use Rattle.logic_meaning.specs.NormalForm.{IsNormal, negated_normal, congruence}
+use Rattle.normal_atoms.specs.Computed.{IsNormalWithin, Kept, Into, merged, decided_by}
+use Rattle.normal_atoms.proofs.Computed.{ComesOf, compared, congruent, merged_comes}
+use Rattle.logic_meaning.specs.AtomKit.{tells}
+use Rattle.shape_theory.specs.AtomKit.{atom_kit}
+use Rattle.shape_theory.specs.Pass.{first_answer, decided}
 use Rattle.theory_simplifier.specs.VariableParts.{part_of, part_number, number_from, magnitude}
 use Rattle.theory_simplifier.proofs.Entries.{tells_normal}
 use Rattle.theory_simplifier.proofs.SameParts.{kept_apart, undecided_apart}

@@ -2,12 +2,12 @@
 use Rattle.std.proofs.Common.{◌≡◌, ℕ, zero, suc, ◌<◌, ◌≤◌, Bool, true, false, refl, ap, ◌∙◌, List, arith}
 use Rattle.std.specs.Prelude.{nat_lt, if◌then◌else◌}
 use Rattle.std.proofs.lemmas.Bool.{ltb-true, ltb-false}
-use Rattle.formula_meaning.specs.Atom.{Atom}
-use Rattle.formula_meaning.specs.Sizes.{nodes}
-use Rattle.formula_meaning.specs.Tree.{Tree}
-use Rattle.formula_meaning.proofs.Sizes.{nodes_positive}
-use Rattle.simplified_formulas.specs.Kit.{Kit}
-use Rattle.simplified_formulas.specs.Pass.{pass, repeated, simplified}
+use Rattle.logic_meaning.specs.Atom.{Atom}
+use Rattle.logic_meaning.specs.Sizes.{nodes}
+use Rattle.logic_meaning.specs.Tree.{Tree}
+use Rattle.formula_laws.proofs.Sizes.{nodes_positive}
+use Rattle.shape_theory.specs.Kit.{Kit}
+use Rattle.shape_theory.specs.Pass.{pass, repeated, simplified}
 
 module _ (kit : Kit Atom) (ks : List Atom) where
   -- as many passes as nodes are enough

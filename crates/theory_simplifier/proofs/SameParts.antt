@@ -5,17 +5,17 @@ use Rattle.std.specs.Prelude.{if◌then◌else◌}
 use Rattle.std.specs.Ordering.{int_eq}
 use Rattle.std.proofs.lemmas.Bool.Decides.{Decides-int_eq}
 use Rattle.exact_numbers.specs.Divides.{content_of}
-use Rattle.formula_meaning.specs.Context.{Context}
-use Rattle.formula_meaning.specs.Form.{Term}
-use Rattle.formula_meaning.specs.declared.junction.Junction.{Junction}
-use Rattle.formula_meaning.specs.Atom.{Atom, Compare, Congruent}
-use Rattle.formula_meaning.proofs.Same.{and_left, and_right, terms_same}
-use Rattle.linear_forms.specs.Terms.{coefficients}
-use Rattle.linear_forms.specs.Reduction.{quotients}
+use Rattle.logic_meaning.specs.Context.{Context}
+use Rattle.logic_meaning.specs.Form.{Term}
+use Rattle.logic_meaning.specs.declared.junction.Junction.{Junction}
+use Rattle.logic_meaning.specs.Atom.{Atom, Compare, Congruent}
+use Rattle.formula_laws.proofs.Same.{and_left, and_right, terms_same}
+use Rattle.logic_meaning.specs.Terms.{coefficients}
+use Rattle.logic_meaning.specs.Reduction.{quotients}
 use Rattle.linear_forms.proofs.Quotients.{one_quotient}
-use Rattle.atom_normal.specs.NormalForm.{IsNormal}
-use Rattle.atom_merging.specs.Merging.{variable_part}
-use Rattle.atom_merging.specs.Computed.{Kept, is_same_part, merged, merged_part, decided_by, decided_part}
+use Rattle.logic_meaning.specs.NormalForm.{IsNormal}
+use Rattle.logic_meaning.specs.Merging.{variable_part}
+use Rattle.normal_atoms.specs.Computed.{Kept, is_same_part, merged, merged_part, decided_by, decided_part}
 use Rattle.theory_simplifier.specs.VariableParts.{part_terms, part_of}
 use Rattle.theory_simplifier.proofs.Parting.{content_nonzero}
 

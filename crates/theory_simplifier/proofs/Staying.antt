@@ -7,26 +7,26 @@ use Rattle.std.specs.Cmp.{unsigned_Decides}
 use Rattle.std.proofs.lemmas.Bool.{cases_eq}
 use Rattle.std.proofs.lemmas.List.{append-nil, append_assoc}
 use Rattle.exact_numbers.specs.Divides.{content_of}
-use Rattle.formula_meaning.specs.Context.{Context}
-use Rattle.formula_meaning.specs.Some.{EachOf}
-use Rattle.formula_meaning.specs.Form.{Term}
-use Rattle.formula_meaning.specs.Formula.{One, And, Or, none, also}
-use Rattle.formula_meaning.specs.Fold.{joined, from_pieces}
-use Rattle.formula_meaning.specs.Members.{AreTwo}
-use Rattle.formula_meaning.specs.Atom.{Atom, Compare, Congruent}
-use Rattle.formula_meaning.specs.Tree.{Tree, Trees}
-use Rattle.formula_meaning.specs.declared.junction.Junction.{Junction}
-use Rattle.formula_meaning.specs.declared.junction.Junction.TheVariants.{Conjunction, Disjunction}
-use Rattle.linear_forms.specs.declared.form.VarId.{VarId}
+use Rattle.logic_meaning.specs.Context.{Context}
+use Rattle.logic_meaning.specs.Some.{EachOf}
+use Rattle.logic_meaning.specs.Form.{Term}
+use Rattle.logic_meaning.specs.Formula.{One, And, Or, none, also}
+use Rattle.logic_meaning.specs.Fold.{joined, from_pieces}
+use Rattle.logic_meaning.specs.Members.{AreTwo}
+use Rattle.logic_meaning.specs.Atom.{Atom, Compare, Congruent}
+use Rattle.logic_meaning.specs.Tree.{Tree, Trees}
+use Rattle.logic_meaning.specs.declared.junction.Junction.{Junction}
+use Rattle.logic_meaning.specs.declared.junction.Junction.TheVariants.{Conjunction, Disjunction}
+use Rattle.logic_meaning.specs.declared.form.VarId.{VarId}
 use Rattle.linear_forms.specs.Linear.{term_of}
-use Rattle.linear_forms.specs.Terms.{coefficients}
-use Rattle.linear_forms.specs.Reduction.{quotients}
-use Rattle.atom_merging.specs.Computed.{IsNormalWithin, Kept, merged}
-use Rattle.simplified_formulas.specs.AtomKit.{atom_kit}
-use Rattle.simplified_formulas.specs.Orderly.{AreOrderly}
-use Rattle.simplified_formulas.specs.Pass.{Parts, Open, close, opened, with_atoms, others, pass}
-use Rattle.simplified_formulas.specs.AtomsFirst.{ones}
-use Rattle.simplified_formulas.specs.Simplifiable.{IsSimplifiable}
+use Rattle.logic_meaning.specs.Terms.{coefficients}
+use Rattle.logic_meaning.specs.Reduction.{quotients}
+use Rattle.normal_atoms.specs.Computed.{IsNormalWithin, Kept, merged}
+use Rattle.shape_theory.specs.AtomKit.{atom_kit}
+use Rattle.shape_theory.specs.Orderly.{AreOrderly}
+use Rattle.shape_theory.specs.Pass.{Parts, Open, close, opened, with_atoms, others, pass}
+use Rattle.logic_meaning.specs.AtomsFirst.{ones}
+use Rattle.shape_theory.specs.Simplifiable.{IsSimplifiable}
 use Rattle.formula_tree.specs.Trees.{members}
 use Rattle.theory_simplifier.specs.Parts.{one_tree}
 use Rattle.theory_simplifier.specs.VariableParts.{part_of, mixed}

@@ -1,11 +1,11 @@
 -- The atoms that are known at a place of a formula, by what encloses it.
 use Rattle.std.specs.Prelude.{List, [], ◌∷◌, ◌++◌}
-use Rattle.formula_meaning.specs.Context.{Context}
-use Rattle.formula_meaning.specs.Some.{EachOf}
-use Rattle.formula_meaning.specs.Atom.{Atom}
-use Rattle.atom_merging.specs.Computed.{IsNormalWithin}
-use Rattle.simplified_formulas.specs.Atoms.{without}
-use Rattle.simplified_formulas.specs.Contained.{contains}
+use Rattle.logic_meaning.specs.Context.{Context}
+use Rattle.logic_meaning.specs.Some.{EachOf}
+use Rattle.logic_meaning.specs.Atom.{Atom}
+use Rattle.normal_atoms.specs.Computed.{IsNormalWithin}
+use Rattle.logic_meaning.specs.AtomKit.{without}
+use Rattle.logic_meaning.specs.Contained.{contains}
 use Rattle.theory_simplifier.specs.declared.known.Frame.{Frame}
 use Rattle.theory_simplifier.specs.declared.known.Frame.TheVariants.{Beside, Under}
 use Rattle.theory_simplifier.specs.Listed.{told_by}

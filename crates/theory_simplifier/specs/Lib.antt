@@ -5,5 +5,3 @@ pub mod Parts
 pub mod VariableParts
 pub mod Places
 pub mod Unchanged
-pub mod FromRedlogPrinter
-pub mod FromSimplifiedTexts

@@ -1,10 +1,10 @@
 -- The atoms of a list, and those that they tell the members beside them.
 use Rattle.std.specs.Prelude.{◌≡◌, List, map}
-use Rattle.formula_meaning.specs.Atom as meant
-use Rattle.formula_meaning.specs.declared.junction.Junction.{Junction}
-use Rattle.atom_normal.specs.Atoms.{atom_of, IsWellFormed}
-use Rattle.atom_normal.specs.NormalForm.{negated_normal}
-use Rattle.simplified_formulas.specs.Atoms.{tells}
+use Rattle.logic_meaning.specs.Atom as meant
+use Rattle.logic_meaning.specs.declared.junction.Junction.{Junction}
+use Rattle.normal_atoms.specs.Atoms.{atom_of, IsWellFormed}
+use Rattle.logic_meaning.specs.NormalForm.{negated_normal}
+use Rattle.logic_meaning.specs.AtomKit.{tells}
 use Rattle.theory_simplifier.specs.declared.joined.Entry.{Entry}
 
 -- atoms of a list that the junction joins

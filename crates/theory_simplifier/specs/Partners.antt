@@ -1,13 +1,13 @@
 -- With which atom of a list a new one merges.
 use Rattle.std.specs.Prelude.{◌≡◌, ℕ, ◌<◌, Option, Some, None, List, length, take, get_or}
-use Rattle.formula_meaning.specs.Some.{EachOf}
-use Rattle.formula_meaning.specs.Context.{Context}
-use Rattle.formula_meaning.specs.Atom.{Atom}
-use Rattle.formula_meaning.specs.declared.junction.Junction.{Junction}
-use Rattle.atom_normal.specs.Atoms.{atom_of, IsWellFormed}
-use Rattle.atom_merging.specs.declared.answers.Merged.{Merged}
-use Rattle.atom_merging.specs.declared.answers.Merged.TheVariants.{One, Keep}
-use Rattle.atom_merging.specs.Computed.{IsNormalWithin, Kept, merged, merging_of}
+use Rattle.logic_meaning.specs.Some.{EachOf}
+use Rattle.logic_meaning.specs.Context.{Context}
+use Rattle.logic_meaning.specs.Atom.{Atom}
+use Rattle.logic_meaning.specs.declared.junction.Junction.{Junction}
+use Rattle.normal_atoms.specs.Atoms.{atom_of, IsWellFormed}
+use Rattle.normal_atoms.specs.declared.answers.Merged.{Merged}
+use Rattle.normal_atoms.specs.declared.answers.Merged.TheVariants.{One, Keep}
+use Rattle.normal_atoms.specs.Computed.{IsNormalWithin, Kept, merged, merging_of}
 
 -- none of the atoms merges with a
 abbrev pub AreApart : Context → Junction → Atom → List Atom → Type 0

@@ -1,14 +1,14 @@
 -- Lists of atoms that a pass takes as they come.
 use Rattle.std.specs.Prelude.{◌≡◌, ◌++◌, ℕ, Bool, false, Option, Some, None, List, [], ◌∷◌, map}
-use Rattle.formula_meaning.specs.Context.{Context}
-use Rattle.formula_meaning.specs.Some.{EachOf}
-use Rattle.formula_meaning.specs.Form.{Term}
-use Rattle.formula_meaning.specs.Atom.{Atom, form_of}
-use Rattle.formula_meaning.specs.Formula.{One}
-use Rattle.formula_meaning.specs.Tree.{Tree}
-use Rattle.formula_meaning.specs.declared.junction.Junction.{Junction}
-use Rattle.atom_merging.specs.Computed.{IsNormalWithin, Kept, merged}
-use Rattle.simplified_formulas.specs.Simplifiable.{IsSimplifiable}
+use Rattle.logic_meaning.specs.Context.{Context}
+use Rattle.logic_meaning.specs.Some.{EachOf}
+use Rattle.logic_meaning.specs.Form.{Term}
+use Rattle.logic_meaning.specs.Atom.{Atom, form_of}
+use Rattle.logic_meaning.specs.Formula.{One}
+use Rattle.logic_meaning.specs.Tree.{Tree}
+use Rattle.logic_meaning.specs.declared.junction.Junction.{Junction}
+use Rattle.normal_atoms.specs.Computed.{IsNormalWithin, Kept, merged}
+use Rattle.shape_theory.specs.Simplifiable.{IsSimplifiable}
 use Rattle.formula_tree.specs.declared.shape.Shape.{Shape}
 use Rattle.formula_store.specs.declared.id.FormulaId.{FormulaId}
 use Rattle.formula_store.specs.Nodes.{tree, IsId}

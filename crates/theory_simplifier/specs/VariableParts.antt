@@ -2,10 +2,10 @@
 use Rattle.std.specs.Prelude.{ℕ, ℤ, int_lt, pos, nat_abs, ◌+◌, ◌*◌, ◌%◌, ◌^◌, List, [], ◌∷◌, if◌then◌else◌}
 use Rattle.std.specs.Ordering.{int_eq}
 use Rattle.exact_numbers.specs.Divides.{content_of}
-use Rattle.formula_meaning.specs.Form.{Form, Term}
-use Rattle.formula_meaning.specs.Atom.{Atom, Compare, Congruent}
-use Rattle.linear_forms.specs.Terms.{coefficients}
-use Rattle.linear_forms.specs.Reduction.{quotients}
+use Rattle.logic_meaning.specs.Form.{Form, Term}
+use Rattle.logic_meaning.specs.Atom.{Atom, Compare, Congruent}
+use Rattle.logic_meaning.specs.Terms.{coefficients}
+use Rattle.logic_meaning.specs.Reduction.{quotients}
 
 -- the terms divided by their content, if that is not 0
 abbrev pub part_terms : List Term → List Term

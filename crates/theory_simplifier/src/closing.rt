@@ -2,11 +2,11 @@
 
 ghost use Rattle.std.specs.Prelude.{◌≡◌, ◌++◌, ◌∷◌, [], Some, map, IfOk, IfSome, IsTrue, length};
 ghost use Rattle.std.specs.List.{AllByRecursion};
-ghost use Rattle.atom_normal.specs.Atoms.{atom_of, IsWellFormed};
-ghost use Rattle.formula_meaning.specs.Fold.{from_pieces};
-ghost use Rattle.formula_meaning.specs.Formula.{One};
-ghost use Rattle.formula_meaning.specs.Tree.{Tree};
-ghost use Rattle.simplified_formulas.specs.Pass.{constant, close};
+ghost use Rattle.normal_atoms.specs.Atoms.{atom_of, IsWellFormed};
+ghost use Rattle.logic_meaning.specs.Fold.{from_pieces};
+ghost use Rattle.logic_meaning.specs.Formula.{One};
+ghost use Rattle.logic_meaning.specs.Tree.{Tree};
+ghost use Rattle.shape_theory.specs.Pass.{constant, close};
 ghost use Rattle.formula_tree.specs.Makers.{IsMade, Keeps};
 ghost use Rattle.formula_tree.specs.Shapes.{AllIds, IsProperShape, tree_over};
 ghost use Rattle.formula_tree.specs.Trees.{members};
@@ -16,11 +16,10 @@ ghost use Rattle.theory_simplifier.specs.Parts.{parts_of, one_tree, HasIds, join
 
 use crate::joined::Joined;
 use crate::parts::{Parts, settles};
-use atom_normal::Atom;
-use formula_meaning::{Junction, Quantifier};
 use formula_store::{FormulaId, Store};
 use formula_tree::{Ids, Maker, Shape};
-use linear_forms::VarId;
+use logic_meaning::{Junction, Quantifier, VarId};
+use normal_atoms::Atom;
 use std::alloc::{AllocError, Global};
 
 /// The formula of this shape.

@@ -2,18 +2,18 @@
 
 ghost use Rattle.std.specs.Prelude.{◌≡◌, map};
 ghost use Rattle.std.specs.List.{AllByRecursion};
-ghost use Rattle.atom_normal.specs.Atoms.{context_of, atom_of};
-ghost use Rattle.formula_meaning.specs.Context.{Context};
-ghost use Rattle.simplified_formulas.specs.AtomKit.{atom_kit};
-ghost use Rattle.simplified_formulas.specs.Contained.{contains};
-ghost use Rattle.simplified_formulas.specs.Pass.{is_free, is_free_in_some};
+ghost use Rattle.normal_atoms.specs.Atoms.{context_of, atom_of};
+ghost use Rattle.logic_meaning.specs.Context.{Context};
+ghost use Rattle.shape_theory.specs.AtomKit.{atom_kit};
+ghost use Rattle.logic_meaning.specs.Contained.{contains};
+ghost use Rattle.shape_theory.specs.Pass.{is_free, is_free_in_some};
 ghost use Rattle.formula_tree.specs.Trees.{members};
 ghost use Rattle.formula_store.specs.Nodes.{IsId, tree};
 
-use atom_normal::Atom;
 use formula_store::{FormulaId, Store};
 use formula_tree::Shape;
-use linear_forms::VarId;
+use logic_meaning::VarId;
+use normal_atoms::Atom;
 
 /// Whether the name stands in the atom. It takes no memory.
 pub(crate) fn has_name(atom: &Atom, x: VarId) -> bool

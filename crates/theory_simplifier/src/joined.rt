@@ -2,22 +2,21 @@
 
 ghost use Rattle.std.specs.Prelude.{◌≡◌, ◌<◌, ◌++◌, ◌∷◌, [], IfOk, IfSome, IsTrue, OnOk, length, map, set, get_or, option_map};
 ghost use Rattle.std.specs.List.{AllByRecursion};
-ghost use Rattle.formula_meaning.specs.Some.{EachOf};
-ghost use Rattle.formula_meaning.specs.declared.junction.Junction.TheVariants.{Conjunction};
-ghost use Rattle.atom_normal.specs.Atoms.{context_of, atom_of, IsWellFormed};
-ghost use Rattle.atom_normal.specs.NormalForm.{IsNormal};
-ghost use Rattle.atom_merging.specs.Computed.{IsNormalWithin, merged, merging_of};
-ghost use Rattle.simplified_formulas.specs.AtomKit.{atom_kit};
-ghost use Rattle.simplified_formulas.specs.Pass.{decided, with_one};
+ghost use Rattle.logic_meaning.specs.Some.{EachOf};
+ghost use Rattle.logic_meaning.specs.declared.junction.Junction.TheVariants.{Conjunction};
+ghost use Rattle.normal_atoms.specs.Atoms.{context_of, atom_of, IsWellFormed};
+ghost use Rattle.logic_meaning.specs.NormalForm.{IsNormal};
+ghost use Rattle.normal_atoms.specs.Computed.{IsNormalWithin, merged, merging_of};
+ghost use Rattle.shape_theory.specs.AtomKit.{atom_kit};
+ghost use Rattle.shape_theory.specs.Pass.{decided, with_one};
 ghost use Rattle.theory_simplifier.specs.VariableParts.{part_number};
 ghost use Rattle.theory_simplifier.specs.Listed.{Listed, told_by, entry_atom, IsEntry};
 ghost use Rattle.theory_simplifier.specs.Partners.{IsPartner, IsNormalMerged};
 
 use crate::part::part_number;
 use crate::places::{Places, places_at, with_place};
-use atom_merging::{Merged, decides, merge_and, merge_or};
-use atom_normal::{Atom, Context, negate};
-use formula_meaning::Junction;
+use logic_meaning::Junction;
+use normal_atoms::{Atom, Context, Merged, decides, merge_and, merge_or, negate};
 use std::alloc::{AllocError, Global};
 use std::collections::HashMap;
 use std::marker::Model;

@@ -1,17 +1,17 @@
 //! The atoms that are known at a place of a formula.
 
 ghost use Rattle.std.specs.Prelude.{◌≡◌, ◌++◌, ◌∷◌, [], IfOk, IfSome, IfNone, IsTrue, OnOk};
-ghost use Rattle.atom_normal.specs.Atoms.{context_of, atom_of, IsWellFormed};
-ghost use Rattle.atom_merging.specs.Computed.{IsNormalWithin};
-ghost use Rattle.simplified_formulas.specs.AtomKit.{atom_kit};
-ghost use Rattle.simplified_formulas.specs.Pass.{decided};
+ghost use Rattle.normal_atoms.specs.Atoms.{context_of, atom_of, IsWellFormed};
+ghost use Rattle.normal_atoms.specs.Computed.{IsNormalWithin};
+ghost use Rattle.shape_theory.specs.AtomKit.{atom_kit};
+ghost use Rattle.shape_theory.specs.Pass.{decided};
 ghost use Rattle.theory_simplifier.specs.VariableParts.{part_number};
 ghost use Rattle.theory_simplifier.specs.Known.{inside, known_atoms, AreNormalFrames};
 
 use crate::free::has_name;
 use crate::joined::Joined;
-use atom_normal::{Atom, Context};
-use linear_forms::VarId;
+use logic_meaning::VarId;
+use normal_atoms::{Atom, Context};
 use std::alloc::{AllocError, Global};
 use std::marker::Model;
 

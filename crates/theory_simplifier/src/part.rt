@@ -1,15 +1,15 @@
 //! The variable part of an atom, told by a number: only atoms with one variable part merge or decide each other.
 
 ghost use Rattle.std.specs.Prelude.{◌≡◌, ◌∷◌, pos, IfOk};
-ghost use Rattle.linear_forms.specs.Terms.{coefficients};
+ghost use Rattle.logic_meaning.specs.Terms.{coefficients};
 ghost use Rattle.exact_numbers.specs.Divides.{content_of};
 ghost use Rattle.exact_numbers.specs.Division.{DividesAll};
-ghost use Rattle.atom_normal.specs.Atoms.{atom_of, IsWellFormed};
+ghost use Rattle.normal_atoms.specs.Atoms.{atom_of, IsWellFormed};
 ghost use Rattle.theory_simplifier.specs.VariableParts.{part_number, number_from, magnitude, sign_of, part_terms};
 
 use crate::unchanged::mixed;
-use atom_normal::Atom;
 use linear_forms::Linear;
+use normal_atoms::Atom;
 use std::alloc::{AllocError, Global};
 
 /// A number that atoms with one variable part share; with others it is another one as a rule. The variable part is of a comparison

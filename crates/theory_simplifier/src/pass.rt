@@ -2,17 +2,17 @@
 
 ghost use Rattle.std.specs.Prelude.{◌≡◌, ◌++◌, ◌∷◌, [], map, IfOk, OnOk};
 ghost use Rattle.std.specs.List.{AllByRecursion};
-ghost use Rattle.formula_meaning.specs.Fold.{from_pieces};
-ghost use Rattle.atom_normal.specs.Atoms.{context_of, atom_of, IsWellFormed};
-ghost use Rattle.atom_merging.specs.Computed.{IsNormalWithin};
-ghost use Rattle.simplified_formulas.specs.AtomKit.{atom_kit};
-ghost use Rattle.simplified_formulas.specs.Orderly.{AreOrderly};
-ghost use Rattle.simplified_formulas.specs.Pass.{pass, others, with_passed, known as known_beside};
-ghost use Rattle.simplified_formulas.specs.Simplifiable.{IsSimplifiable};
+ghost use Rattle.logic_meaning.specs.Fold.{from_pieces};
+ghost use Rattle.normal_atoms.specs.Atoms.{context_of, atom_of, IsWellFormed};
+ghost use Rattle.normal_atoms.specs.Computed.{IsNormalWithin};
+ghost use Rattle.shape_theory.specs.AtomKit.{atom_kit};
+ghost use Rattle.shape_theory.specs.Orderly.{AreOrderly};
+ghost use Rattle.shape_theory.specs.Pass.{pass, others, with_passed, known as known_beside};
+ghost use Rattle.shape_theory.specs.Simplifiable.{IsSimplifiable};
 ghost use Rattle.formula_tree.specs.Makers.{IsMade, Keeps};
 ghost use Rattle.formula_tree.specs.Trees.{members};
 ghost use Rattle.formula_store.specs.Nodes.{IsId, tree};
-ghost use Rattle.formula_meaning.specs.Shape.{quantified};
+ghost use Rattle.logic_meaning.specs.Shape.{quantified};
 ghost use Rattle.theory_simplifier.specs.Known.{known_atoms, AreNormalFrames};
 ghost use Rattle.theory_simplifier.specs.Parts.{parts_of, is_one, IsListOf, HasIds, pass_list};
 
@@ -22,11 +22,10 @@ use crate::known::{Frame, Known};
 use crate::part::part_number;
 use crate::parts::{Parts, with_atoms, with_member};
 use crate::unchanged::is_unchanged;
-use atom_normal::Context;
-use formula_meaning::{Junction, Quantifier};
 use formula_store::{FormulaId, Store};
 use formula_tree::Shape;
-use linear_forms::VarId;
+use logic_meaning::{Junction, Quantifier, VarId};
+use normal_atoms::Context;
 use std::alloc::{AllocError, Global};
 
 /// The formula after one pass under the known atoms, which stay. The recursion is as deep as the formula is high.

@@ -2,34 +2,33 @@
 
 ghost use Rattle.std.specs.Prelude.{◌≡◌, ◌≤◌, ◌<◌, ℕ, List, IfOk, IfErr, OnOk, length, map};
 ghost use Rattle.std.specs.List.{AllByRecursion};
-ghost use Rattle.formula_meaning.specs.Every.{Every};
-ghost use Rattle.formula_meaning.specs.Some.{EachOf};
-ghost use Rattle.formula_meaning.specs.Sizes.{nodes};
-ghost use Rattle.formula_meaning.specs.Tree.{IsFree};
-ghost use Rattle.atom_normal.specs.Atoms.{context_of, atom_of, IsWellFormed};
-ghost use Rattle.atom_normal.specs.NormalForm.{IsNormal};
-ghost use Rattle.simplified_formulas.specs.Measure.{size, atom_measure};
-ghost use Rattle.simplified_formulas.specs.Orderly.{IsOrderly};
-ghost use Rattle.simplified_formulas.specs.Trees.{IsReduced};
-ghost use Rattle.simplified_formulas.specs.Simplifiable.{EquivalentUnder, simplified_under};
-ghost use Rattle.simplified_formulas.specs.Simplifiable.{IsSimplifiable};
-ghost use Rattle.simplified_formulas.specs.AtomKit.{atom_kit};
-ghost use Rattle.simplified_formulas.specs.Pass.{simplified};
-ghost use Rattle.formula_meaning.specs.Context.{Context as Theory};
+ghost use Rattle.logic_meaning.specs.Every.{Every};
+ghost use Rattle.logic_meaning.specs.Some.{EachOf};
+ghost use Rattle.logic_meaning.specs.Sizes.{nodes};
+ghost use Rattle.logic_meaning.specs.Tree.{IsFree};
+ghost use Rattle.normal_atoms.specs.Atoms.{context_of, atom_of, IsWellFormed};
+ghost use Rattle.logic_meaning.specs.NormalForm.{IsNormal};
+ghost use Rattle.logic_meaning.specs.Measure.{size, atom_measure};
+ghost use Rattle.shape_theory.specs.Orderly.{IsOrderly};
+ghost use Rattle.logic_meaning.specs.Trees.{IsReduced};
+ghost use Rattle.shape_theory.specs.Simplifiable.{EquivalentUnder, simplified_under, IsSimplifiable};
+ghost use Rattle.shape_theory.specs.AtomKit.{atom_kit};
+ghost use Rattle.shape_theory.specs.Pass.{simplified};
+ghost use Rattle.logic_meaning.specs.Context.{Context as Theory};
 ghost use Rattle.formula_tree.specs.Makers.{IsMade, Keeps};
 ghost use Rattle.formula_store.specs.Facts.{most_nodes};
 ghost use Rattle.theory_simplifier.specs.Known.{known_atoms, AreNormalFrames};
 ghost use Rattle.formula_store.specs.Nodes.{IsId, tree};
-ghost use Rattle.simplified_texts.specs.FromRedlogPrinter.{tree_text};
-ghost use Rattle.formula_meaning.specs.Within.{IsAtomWithin};
+ghost use Rattle.logic_meaning.specs.Text.{tree_text};
+ghost use Rattle.formula_laws.specs.Within.{IsAtomWithin};
 
 use crate::error::SimplError;
 use crate::joined::Joined;
 use crate::known::{Frame, Known};
 use crate::pass::passed;
-use atom_normal::{Atom, Context};
 use formula_store::{FormulaId, Store};
 use formula_tree::Shape;
+use normal_atoms::{Atom, Context};
 use std::alloc::{AllocError, Global};
 
 /// The shared formula simplified under the assumptions `theory`: it has the formula's truth wherever all of them are true, is

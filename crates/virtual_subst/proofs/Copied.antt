@@ -2,9 +2,9 @@
 use Rattle.std.proofs.Common.{◌≡◌, ℕ, ◌<◌, inl, inr, List, [], ◌∷◌, Some, length, ap, sym, ◌∙◌, arith}
 use Rattle.std.specs.Prelude.{slice_get}
 use Rattle.std.proofs.lemmas.Option.{slice_get-get_or}
-use Rattle.formula_meaning.specs.Some.{SomeOf}
-use Rattle.atom_normal.specs.declared.atoms.Context.{Context}
-use Rattle.atom_normal.specs.Atoms.{context_of}
+use Rattle.logic_meaning.specs.Some.{SomeOf}
+use Rattle.normal_atoms.specs.declared.atoms.Context.{Context}
+use Rattle.normal_atoms.specs.Atoms.{context_of}
 use Rattle.formula_tree.specs.declared.shape.Shape.{Shape}
 use Rattle.formula_tree.specs.Makers.{Keeps}
 use Rattle.formula_tree.specs.Shapes.{ids_of}
@@ -14,7 +14,7 @@ use Rattle.formula_store.specs.Nodes.{tree, IsId, AreNodes, Front}
 use Rattle.formula_store.specs.Order.{Within, WithinSome, IsOrder, itself, inside}
 use Rattle.formula_store.proofs.Before.{among_all}
 use Rattle.formula_store.proofs.Marked.{all_on}
-use Rattle.nnf_substitution.specs.Placed.{put, all_within}
+use Rattle.nnf_trees.specs.Placed.{put, all_within}
 use Rattle.test_points.specs.declared.points.TestPoint.{TestPoint}
 use Rattle.test_points.specs.Points.{place_of}
 use Rattle.virtual_subst.specs.declared.truths.Truths.{Truths}

@@ -2,13 +2,13 @@
 use Rattle.std.proofs.Common.{◌≡◌, ℕ, ◌<◌, ⊎_elim, Bool, true, false, ◌&&◌, List, [], ◌∷◌, length, get_or, map, refl, sym, ◌∙◌}
 use Rattle.std.specs.Cmp.{first_so, second_so}
 use Rattle.std.specs.List.{AllByRecursion}
-use Rattle.formula_meaning.specs.Answer.{Place}
-use Rattle.formula_meaning.specs.TheoryAtoms.{AtomIn}
-use Rattle.formula_meaning.specs.Context.{Context}
-use Rattle.formula_meaning.specs.Every.{EveryOf}
-use Rattle.formula_meaning.specs.Plain.{IsPlain, ArePlain}
-use Rattle.formula_meaning.specs.Tree.{Tree}
-use Rattle.formula_meaning.specs.Equivalence.{InContext}
+use Rattle.logic_meaning.specs.Answer.{Place}
+use Rattle.formula_laws.specs.TheoryAtoms.{AtomIn}
+use Rattle.logic_meaning.specs.Context.{Context}
+use Rattle.logic_meaning.specs.Every.{EveryOf}
+use Rattle.logic_meaning.specs.Plain.{IsPlain, ArePlain}
+use Rattle.logic_meaning.specs.Tree.{Tree}
+use Rattle.formula_laws.specs.Equivalence.{InContext}
 use Rattle.formula_tree.specs.declared.shape.Shape.{Shape}
 use Rattle.formula_tree.specs.declared.shape.Shape.TheVariants as shape
 use Rattle.formula_tree.specs.Trees.{members}
@@ -18,8 +18,8 @@ use Rattle.formula_store.specs.Nodes.{tree, AreNodes}
 use Rattle.formula_store.specs.Order.{Within, WithinSome}
 use Rattle.formula_store.proofs.Inner.{passes_down}
 use Rattle.formula_store.proofs.Marked.{all_at}
-use Rattle.nnf_substitution.specs.Placed.{all_within, each_within}
-use Rattle.nnf_substitution.proofs.PutLaws.{also_within}
+use Rattle.nnf_trees.specs.Placed.{all_within, each_within}
+use Rattle.nnf_trees.proofs.PutLaws.{also_within}
 use Rattle.virtual_subst.specs.declared.error.SubstError.{SubstError}
 use Rattle.virtual_subst.specs.declared.error.SubstError.TheVariants.{Overflow, Memory}
 use Rattle.virtual_subst.specs.Shared.{Stops}

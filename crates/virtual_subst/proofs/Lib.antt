@@ -5,5 +5,4 @@ pub mod Noted
 pub mod Copied
 pub mod Started
 pub mod SameIds
-pub mod FromNnfSubstitution
-pub mod FromNnfTrees
+pub mod Joined

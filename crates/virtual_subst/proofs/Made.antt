@@ -3,26 +3,28 @@ use Rattle.std.proofs.Common.{◌≡◌, ◌<◌, Bool, true, ◌&&◌, List, []
 use Rattle.std.proofs.Math.IntN.{ℤ, pos}
 use Rattle.std.specs.Prelude.{option_map}
 use Rattle.std.specs.List.{AllByRecursion}
-use Rattle.formula_meaning.specs.declared.junction.Junction.{Junction}
-use Rattle.formula_meaning.specs.Fold.{joined, folded, fold_list, all_pieces, from_pieces}
-use Rattle.formula_meaning.specs.Form.{coefficient}
-use Rattle.formula_meaning.specs.Formula.{One, also}
-use Rattle.formula_meaning.specs.Tree.{Tree}
-use Rattle.test_points.specs.FromEliminationTheory.{where_zero, raw_atom, normalised}
-use Rattle.test_points.specs.FromEliminationReference.{atom_within, numbers_within, normal_within}
-use Rattle.atom_normal.specs.NormalForm.{normal_atom}
-use Rattle.atom_normal.specs.declared.atoms.Context.{Context}
-use Rattle.atom_normal.specs.declared.atoms.Normal.{Normal}
-use Rattle.atom_normal.specs.Atoms.{context_of, tree_of}
-use Rattle.formula_meaning.specs.Atom as meant
+use Rattle.logic_meaning.specs.declared.junction.Junction.{Junction}
+use Rattle.logic_meaning.specs.Fold.{joined, folded, fold_list, all_pieces, from_pieces}
+use Rattle.logic_meaning.specs.Form.{coefficient}
+use Rattle.logic_meaning.specs.Formula.{One, also}
+use Rattle.logic_meaning.specs.Tree.{Tree}
+use Rattle.logic_meaning.specs.Substitution.{where_zero}
+use Rattle.logic_meaning.specs.BothTheories.{raw_atom}
+use Rattle.logic_meaning.specs.Steps.{normalised}
+use Rattle.logic_meaning.specs.StopLimits.{atom_within, numbers_within, normal_within}
+use Rattle.logic_meaning.specs.NormalForm.{normal_atom}
+use Rattle.normal_atoms.specs.declared.atoms.Context.{Context}
+use Rattle.normal_atoms.specs.declared.atoms.Normal.{Normal}
+use Rattle.normal_atoms.specs.Atoms.{context_of, tree_of}
+use Rattle.logic_meaning.specs.Atom as meant
 use Rattle.formula_tree.specs.declared.shape.Shape.{Shape}
 use Rattle.formula_tree.specs.Makers.{IsMade, Keeps}
 use Rattle.formula_tree.specs.Trees.{members}
 use Rattle.formula_store.specs.declared.id.FormulaId.{FormulaId}
 use Rattle.formula_store.specs.Nodes.{tree, IsId}
-use Rattle.nnf_substitution.specs.Placed.{put, put_all, all_within, each_within}
-use Rattle.nnf_substitution.proofs.FromNnfTrees.{two_pieces}
-use Rattle.nnf_substitution.proofs.PutLaws.{also_within, and_true, put_joined, joined_within, normal_folded}
+use Rattle.nnf_trees.specs.Placed.{put, put_all, all_within, each_within}
+use Rattle.nnf_trees.proofs.Pieces.{two_pieces}
+use Rattle.nnf_trees.proofs.PutLaws.{also_within, and_true, put_joined, joined_within, normal_folded}
 use Rattle.test_points.specs.declared.points.TestPoint.{TestPoint}
 use Rattle.test_points.specs.Points.{place_of}
 use Rattle.virtual_subst.specs.Shared.{IsAtomPut, IsNodePut, Held, Table, made_of}

@@ -1,15 +1,15 @@
 -- What is made beside a store and taken in, one after the other.
 use Rattle.std.proofs.Common.{arith, ◌≡◌, ℕ, zero, suc, ◌+◌, ◌<◌, ◌≤◌, List, [], ◌∷◌, ◌++◌, Some, slice_get, get_or, map, length, refl, ap, ◌∙◌, subst, inl, inr}
 use Rattle.std.specs.List.{AllByRecursion}
-use Rattle.formula_meaning.specs.Some.{SomeOf}
-use Rattle.formula_meaning.specs.Tree.{Tree}
+use Rattle.logic_meaning.specs.Some.{SomeOf}
+use Rattle.logic_meaning.specs.Tree.{Tree}
 use Rattle.formula_tree.specs.declared.shape.Shape.{Shape}
 use Rattle.formula_tree.specs.Makers.{IsMade, AreMade, Keeps}
 use Rattle.formula_store.specs.declared.id.FormulaId.{FormulaId}
 use Rattle.formula_store.specs.Changes.{Change, tree_on}
 use Rattle.formula_store.specs.Nodes.{tree, IsId}
-use Rattle.nnf_substitution.specs.Placed.{put}
-use Rattle.atom_normal.specs.Atoms.{context_of}
+use Rattle.nnf_trees.specs.Placed.{put}
+use Rattle.normal_atoms.specs.Atoms.{context_of}
 use Rattle.test_points.specs.declared.points.TestPoint.{TestPoint}
 use Rattle.test_points.specs.Points.{place_of}
 use Rattle.qe_parallel.specs.Fanned.{AnswerAll}

@@ -1,10 +1,10 @@
 -- What a formula gives to the list that it is a member of, where the list is joined and folded.
 use Rattle.std.specs.Prelude.{◌≡◌, Bool, List, Some, None, map, if◌then◌else◌}
 use Rattle.std.specs.List.{AllByRecursion}
-use Rattle.formula_meaning.specs.declared.junction.Junction.{Junction}
-use Rattle.formula_meaning.specs.Fold.{pieces_of, put_together}
-use Rattle.formula_meaning.specs.Formula.{none, also}
-use Rattle.formula_meaning.specs.Tree.{Tree}
+use Rattle.logic_meaning.specs.declared.junction.Junction.{Junction}
+use Rattle.logic_meaning.specs.Fold.{pieces_of, put_together}
+use Rattle.logic_meaning.specs.Formula.{none, also}
+use Rattle.logic_meaning.specs.Tree.{Tree}
 use Rattle.formula_tree.specs.declared.shape.Shape.{Shape}
 use Rattle.formula_tree.specs.Shapes.{tree_over, ids_of}
 use Rattle.formula_tree.specs.Trees.{members}

@@ -1,5 +1,4 @@
 pub mod Shared
 pub mod Folding
 pub mod Phases
-pub mod FromNnfSubstitution
-pub mod FromTestPoints
+pub mod Guarded

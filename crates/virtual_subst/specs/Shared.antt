@@ -1,21 +1,22 @@
 -- A formula of a store with a name at a place, made beside the store.
 use Rattle.std.specs.Prelude.{◌≡◌, ◌≤◌, ◌<◌, ◌⊎◌, ℕ, Bool, true, false, List, [], ◌∷◌, ◌++◌, length, if◌then◌else◌}
 use Rattle.std.specs.List.{AllByRecursion}
-use Rattle.formula_meaning.specs.Atom as meant
-use Rattle.formula_meaning.specs.Formula.{Yes, No}
-use Rattle.test_points.specs.FromEliminationTheory.{IsPlaceIn, atom_at}
-use Rattle.test_points.specs.FromEliminationReference.{atom_within}
-use Rattle.atom_normal.specs.declared.atoms.Context.{Context}
-use Rattle.atom_normal.specs.declared.atoms.Normal.{Normal}
-use Rattle.atom_normal.specs.Atoms.{context_of, tree_of, IsWellFormedNormal}
-use Rattle.atom_normal.specs.NormalForm.{normal_atom}
+use Rattle.logic_meaning.specs.Atom as meant
+use Rattle.logic_meaning.specs.Formula.{Yes, No}
+use Rattle.logic_meaning.specs.BothTheories.{IsPlaceIn}
+use Rattle.logic_meaning.specs.Steps.{atom_at}
+use Rattle.logic_meaning.specs.StopLimits.{atom_within}
+use Rattle.normal_atoms.specs.declared.atoms.Context.{Context}
+use Rattle.normal_atoms.specs.declared.atoms.Normal.{Normal}
+use Rattle.normal_atoms.specs.Atoms.{context_of, tree_of, IsWellFormedNormal}
+use Rattle.logic_meaning.specs.NormalForm.{normal_atom}
 use Rattle.formula_tree.specs.declared.shape.Shape.{Shape}
 use Rattle.formula_tree.specs.Makers.{IsMade}
 use Rattle.formula_store.specs.declared.id.FormulaId.{FormulaId}
 use Rattle.formula_store.specs.Changes.{Change, tree_on}
 use Rattle.formula_store.specs.Nodes.{tree, IsId}
 use Rattle.formula_store.specs.Tables.{same_id}
-use Rattle.nnf_substitution.specs.Placed.{put, all_within}
+use Rattle.nnf_trees.specs.Placed.{put, all_within}
 use Rattle.test_points.specs.declared.points.TestPoint.{TestPoint}
 use Rattle.test_points.specs.Points.{place_of, IsTestPoint}
 use Rattle.virtual_subst.specs.declared.error.SubstError.{SubstError}

@@ -1,19 +1,18 @@
 //! A test point put into one atom.
 
 ghost use Rattle.std.specs.Prelude.{◌≡◌, pos, IsTrue, MatchResult};
-ghost use Rattle.formula_meaning.specs.Form.{coefficient};
-ghost use Rattle.formula_meaning.specs.Atom.{form_of};
-ghost use Rattle.formula_meaning.specs.TheoryAtoms.{AtomIn};
-ghost use Rattle.test_points.specs.FromEliminationReference.{atom_within};
-ghost use Rattle.atom_normal.specs.Atoms.{atom_of, context_of, IsWellFormed};
+ghost use Rattle.logic_meaning.specs.Form.{coefficient};
+ghost use Rattle.logic_meaning.specs.Atom.{form_of};
+ghost use Rattle.formula_laws.specs.TheoryAtoms.{AtomIn};
+ghost use Rattle.logic_meaning.specs.StopLimits.{atom_within};
+ghost use Rattle.normal_atoms.specs.Atoms.{atom_of, context_of, IsWellFormed};
 ghost use Rattle.test_points.specs.Points.{place_of};
 ghost use Rattle.virtual_subst.specs.Shared.{Stops, IsAtomPut, IsAtPlace};
 
 use crate::error::SubstError;
-use atom_normal::{Atom, Context, Normal};
-use nnf_substitution::substitute_integer;
+use normal_atoms::{Atom, Context, Normal};
 use std::alloc::Global;
-use test_points::{PointError, TestPoint, substitute_field};
+use test_points::{PointError, TestPoint, substitute_field, substitute_integer};
 
 /// A test point of a theory.
 #[derive(Clone, Copy)]

@@ -2,8 +2,8 @@
 
 ghost use Rattle.std.specs.Prelude.{◌≡◌, Some, None, IfOk, IfSome, map, option_map, if◌then◌else◌};
 ghost use Rattle.std.specs.List.{AllByRecursion};
-ghost use Rattle.formula_meaning.specs.Fold.{fold_list, all_pieces, pieces_of, put_together, from_pieces};
-ghost use Rattle.atom_normal.specs.Atoms.{tree_of, IsWellFormedNormal};
+ghost use Rattle.logic_meaning.specs.Fold.{fold_list, all_pieces, pieces_of, put_together, from_pieces};
+ghost use Rattle.normal_atoms.specs.Atoms.{tree_of, IsWellFormedNormal};
 ghost use Rattle.formula_tree.specs.Makers.{IsMade, Keeps};
 ghost use Rattle.formula_tree.specs.Trees.{members};
 ghost use Rattle.formula_tree.specs.declared.shape.Shape.TheVariants as shape;
@@ -12,10 +12,10 @@ ghost use Rattle.virtual_subst.specs.Folding.{Gives, IsGathered};
 ghost use Rattle.virtual_subst.specs.Shared.{made_of, KeysRise};
 
 use crate::table::made;
-use atom_normal::Normal;
-use formula_meaning::Junction;
 use formula_store::{FormulaId, Formulas};
 use formula_tree::{Ids, Shape};
+use logic_meaning::Junction;
+use normal_atoms::Normal;
 use std::alloc::{AllocError, Global};
 
 /// The formulas joined and folded: constants go or decide the whole, a member of the same junction gives its members, and one

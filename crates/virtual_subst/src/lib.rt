@@ -4,8 +4,10 @@
 mod atoms;
 mod error;
 mod folding;
+mod guards;
 mod nodes;
 mod putting;
+mod results;
 mod sharing;
 mod substitution;
 mod table;
@@ -14,8 +16,8 @@ mod truths;
 
 pub use error::SubstError;
 pub use folding::{fold, normal_made};
-pub use nnf_substitution::guard;
+pub use guards::with_guard;
+pub use results::result_shared;
 pub use sharing::substitute_all;
 pub use substitution::{substitute_listed, substitute_shared};
 pub use taking::put_at_all;
-pub use test_points::TestPoint;

@@ -2,17 +2,17 @@
 
 ghost use Rattle.std.specs.List.{AllByRecursion};
 ghost use Rattle.std.specs.Prelude.{◌≡◌, ◌<◌, Some, IfOk, IfSome, IsTrue, MatchOption, MatchResult, length, map, option_map, slice_get};
-ghost use Rattle.formula_meaning.specs.Fold.{from_pieces};
-ghost use Rattle.formula_meaning.specs.Plain.{IsPlain};
-ghost use Rattle.formula_meaning.specs.Equivalence.{InContext};
-ghost use Rattle.atom_normal.specs.Atoms.{context_of, tree_of, IsWellFormedNormal};
+ghost use Rattle.logic_meaning.specs.Fold.{from_pieces};
+ghost use Rattle.logic_meaning.specs.Plain.{IsPlain};
+ghost use Rattle.formula_laws.specs.Equivalence.{InContext};
+ghost use Rattle.normal_atoms.specs.Atoms.{context_of, tree_of, IsWellFormedNormal};
 ghost use Rattle.formula_tree.specs.declared.shape.Shape.{Shape};
 ghost use Rattle.formula_tree.specs.Makers.{IsMade, Keeps};
 ghost use Rattle.formula_tree.specs.Shapes.{AllIds};
 ghost use Rattle.formula_tree.specs.Trees.{members};
 ghost use Rattle.formula_store.specs.declared.id.FormulaId.{FormulaId};
 ghost use Rattle.formula_store.specs.Nodes.{tree, IsId, Front};
-ghost use Rattle.nnf_substitution.specs.Placed.{all_within};
+ghost use Rattle.nnf_trees.specs.Placed.{all_within};
 ghost use Rattle.test_points.specs.Points.{place_of};
 ghost use Rattle.virtual_subst.specs.Shared.{Stops, Held, IsAtPlace, IsNodePut, AreTruths, KeysRise};
 
@@ -20,10 +20,10 @@ use crate::atoms::At;
 use crate::error::SubstError;
 use crate::folding::{gathered, whole};
 use crate::truths::Truths;
-use atom_normal::Normal;
-use formula_meaning::Junction;
 use formula_store::{FormulaId, Formulas};
 use formula_tree::Shape;
+use logic_meaning::Junction;
+use normal_atoms::Normal;
 use std::alloc::{AllocError, Global};
 
 /// The formula with the point's name put at the point, each atom in normal form and the whole folded, made in the store or the

@@ -1,13 +1,13 @@
 //! A test point put into a formula, in the store or the overlay that has the formula.
 
 ghost use Rattle.std.specs.Prelude.{◌≡◌, ◌∷◌, [], MatchResult};
-ghost use Rattle.formula_meaning.specs.Plain.{IsPlain};
-ghost use Rattle.formula_meaning.specs.Equivalence.{InContext};
-ghost use Rattle.atom_normal.specs.Atoms.{context_of};
+ghost use Rattle.logic_meaning.specs.Plain.{IsPlain};
+ghost use Rattle.formula_laws.specs.Equivalence.{InContext};
+ghost use Rattle.normal_atoms.specs.Atoms.{context_of};
 ghost use Rattle.formula_tree.specs.Makers.{Keeps};
 ghost use Rattle.formula_store.specs.Nodes.{tree, IsId, Front};
 ghost use Rattle.formula_store.specs.Order.{IsOrder};
-ghost use Rattle.nnf_substitution.specs.Placed.{all_within};
+ghost use Rattle.nnf_trees.specs.Placed.{all_within};
 ghost use Rattle.test_points.specs.Points.{place_of};
 ghost use Rattle.virtual_subst.specs.Shared.{Stops, IsAtPlace, IsNodePut, AreTruths};
 

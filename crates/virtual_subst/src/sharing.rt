@@ -1,9 +1,9 @@
 //! Many test points put into one formula of a store, shared out to threads.
 
 ghost use Rattle.std.specs.Prelude.{◌∷◌, [], All, length, ◌≤◌};
-ghost use Rattle.formula_meaning.specs.Plain.{IsPlain};
-ghost use Rattle.formula_meaning.specs.Equivalence.{InContext};
-ghost use Rattle.atom_normal.specs.Atoms.{context_of};
+ghost use Rattle.logic_meaning.specs.Plain.{IsPlain};
+ghost use Rattle.formula_laws.specs.Equivalence.{InContext};
+ghost use Rattle.normal_atoms.specs.Atoms.{context_of};
 ghost use Rattle.formula_store.specs.Nodes.{tree, IsId};
 ghost use Rattle.qe_parallel.specs.Fanned.{Fanned};
 ghost use Rattle.virtual_subst.specs.Shared.{IsAtPlace};
@@ -11,8 +11,8 @@ ghost use Rattle.virtual_subst.specs.Phases.{IsPutAtPiece, StopsAtPiece};
 
 use crate::error::SubstError;
 use crate::substitution::substitute_listed;
-use atom_normal::Context;
 use formula_store::{Delta, FormulaId, Store, StoreError};
+use normal_atoms::Context;
 use qe_parallel::{FanError, Gate, Worker, fan_out};
 use std::alloc::Global;
 use std::marker::Model;

@@ -1,12 +1,12 @@
 //! A test point put into a formula of a store, one distinct subformula after another.
 
 ghost use Rattle.std.specs.Prelude.{◌≡◌, ◌∷◌, [], MatchResult};
-ghost use Rattle.formula_meaning.specs.Plain.{IsPlain};
-ghost use Rattle.formula_meaning.specs.Equivalence.{InContext};
-ghost use Rattle.atom_normal.specs.Atoms.{context_of};
+ghost use Rattle.logic_meaning.specs.Plain.{IsPlain};
+ghost use Rattle.formula_laws.specs.Equivalence.{InContext};
+ghost use Rattle.normal_atoms.specs.Atoms.{context_of};
 ghost use Rattle.formula_store.specs.Nodes.{tree, IsId};
 ghost use Rattle.formula_store.specs.Order.{IsOrder};
-ghost use Rattle.nnf_substitution.specs.Placed.{all_within};
+ghost use Rattle.nnf_trees.specs.Placed.{all_within};
 ghost use Rattle.test_points.specs.Points.{place_of};
 ghost use Rattle.virtual_subst.specs.Shared.{Stops, IsAtPlace, IsPutAt};
 
@@ -14,8 +14,8 @@ use crate::atoms::At;
 use crate::error::SubstError;
 use crate::putting::put_in;
 use crate::truths::Truths;
-use atom_normal::Context;
 use formula_store::{Delta, FormulaId, Overlay, Store, StoreError};
+use normal_atoms::Context;
 use std::alloc::Global;
 use test_points::TestPoint;
 

@@ -2,14 +2,14 @@
 
 ghost use Rattle.std.specs.Prelude.{◌≡◌, ◌≤◌, ◌++◌, ◌∷◌, [], All, OnOk, IfOk, IfErr, length, map, false};
 ghost use Rattle.std.specs.List.{AllByRecursion};
-ghost use Rattle.formula_meaning.specs.Plain.{IsPlain};
-ghost use Rattle.formula_meaning.specs.Some.{SomeOf};
-ghost use Rattle.formula_meaning.specs.Equivalence.{InContext};
-ghost use Rattle.atom_normal.specs.Atoms.{context_of};
+ghost use Rattle.logic_meaning.specs.Plain.{IsPlain};
+ghost use Rattle.logic_meaning.specs.Some.{SomeOf};
+ghost use Rattle.formula_laws.specs.Equivalence.{InContext};
+ghost use Rattle.normal_atoms.specs.Atoms.{context_of};
 ghost use Rattle.formula_tree.specs.Makers.{AreMade, Keeps};
 ghost use Rattle.formula_store.specs.Changes.{tree_on};
 ghost use Rattle.formula_store.specs.Nodes.{tree, IsId};
-ghost use Rattle.nnf_substitution.specs.Placed.{put, all_within};
+ghost use Rattle.nnf_trees.specs.Placed.{put, all_within};
 ghost use Rattle.test_points.specs.Points.{place_of};
 ghost use Rattle.virtual_subst.specs.Shared.{IsAtPlace, AreTruths};
 
@@ -18,8 +18,8 @@ use crate::error::SubstError;
 use crate::putting::put_in;
 use crate::sharing::substitute_all;
 use crate::truths::Truths;
-use atom_normal::Context;
 use formula_store::{Delta, FormulaId, Store};
+use normal_atoms::Context;
 use qe_parallel::{FanError, Gate};
 use std::alloc::{AllocError, Global};
 use std::thread::Threads;

@@ -9,25 +9,25 @@ use Rattle.std.proofs.lemmas.Int.{ints}
 use Rattle.exact_numbers.specs.Limit.{InLimit, PastLimit}
 use Rattle.exact_numbers.specs.Divides.{residue_of, content_of}
 use Rattle.exact_numbers.specs.Frac.{whole_frac}
-use Rattle.formula_meaning.specs.Context.{Context, Fields, Integers}
-use Rattle.formula_meaning.specs.Formula.{One}
-use Rattle.formula_meaning.specs.Form.{Form, coefficients, scale}
-use Rattle.formula_meaning.specs.Sorted.{gathered}
-use Rattle.formula_meaning.specs.Atom as meaning
-use Rattle.formula_meaning.specs.Atom.{form_of}
-use Rattle.formula_meaning.proofs.Gathered.{constant_gathered}
-use Rattle.linear_forms.specs.Reduction.{quotient, residue_form}
-use Rattle.atom_normal.specs.NormalForm.{constant_tree, congruence, smaller, first, coprime_congruence, ConstantPasses, normal_atom}
-use Rattle.atom_normal.specs.NormalForm as normal
-use Rattle.qe_syntax.specs.declared.tree.Literal.TheVariants.{Past}
-use Rattle.qe_syntax.specs.Trees.{TermTree, TermTrees, Number, Named, Sum, Product, Quotient, Power, Negative, none, also, Compare}
-use Rattle.qe_syntax.specs.declared.tree.Relation.{Relation}
-use Rattle.atom_normal.specs.declared.atoms.Normal.{Normal}
-use Rattle.atom_normal.specs.Atoms.{tree_of, IsWellFormedNormal}
-use Rattle.resolved_formulas.specs.FractionRule.{added, multiplied, ◌>>=◌}
-use Rattle.resolved_formulas.specs.RationalForms.{RationalForm, Missing, Overflow, constant_form, literal_form, forms, formed, formed_difference, sum_of_forms, product_of_forms, quotient_of_forms, power_of_form, opposite_form}
-use Rattle.resolved_formulas.specs.Resolving.{BoundTrees, compared, congruent}
-use Rattle.resolved_formulas.specs.Causes.{HasPast, HavePast, IsMissing}
+use Rattle.logic_meaning.specs.Context.{Context, Fields, Integers}
+use Rattle.logic_meaning.specs.Formula.{One}
+use Rattle.logic_meaning.specs.Form.{Form, coefficients, scale}
+use Rattle.logic_meaning.specs.Sorted.{gathered}
+use Rattle.logic_meaning.specs.Atom as meaning
+use Rattle.logic_meaning.specs.Atom.{form_of}
+use Rattle.formula_laws.proofs.Gathered.{constant_gathered}
+use Rattle.logic_meaning.specs.Reduction.{quotient, residue_form}
+use Rattle.logic_meaning.specs.NormalForm.{constant_tree, congruence, smaller, first, coprime_congruence, ConstantPasses, normal_atom}
+use Rattle.logic_meaning.specs.NormalForm as normal
+use Rattle.language_meaning.specs.declared.tree.Literal.TheVariants.{Past}
+use Rattle.language_meaning.specs.Trees.{TermTree, TermTrees, Number, Named, Sum, Product, Quotient, Power, Negative, none, also, Compare}
+use Rattle.language_meaning.specs.declared.tree.Relation.{Relation}
+use Rattle.normal_atoms.specs.declared.atoms.Normal.{Normal}
+use Rattle.normal_atoms.specs.Atoms.{tree_of, IsWellFormedNormal}
+use Rattle.language_meaning.specs.FractionRule.{added, multiplied, ◌>>=◌}
+use Rattle.language_meaning.specs.RationalForms.{RationalForm, Missing, Overflow, constant_form, literal_form, forms, formed, formed_difference, sum_of_forms, product_of_forms, quotient_of_forms, power_of_form, opposite_form}
+use Rattle.language_meaning.specs.Resolving.{BoundTrees, compared, congruent}
+use Rattle.language_meaning.specs.Causes.{HasPast, HavePast, IsMissing}
 use Rattle.written_atoms.specs.declared.rational.Rational.{Rational}
 use Rattle.written_atoms.specs.declared.term.ReadTerm.{ReadTerm}
 use Rattle.written_atoms.specs.declared.read.AtomCauses.{AtomCauses}

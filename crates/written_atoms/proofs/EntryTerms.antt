@@ -10,13 +10,13 @@ use Rattle.std.proofs.lemmas.Bool.Decides.{nat_tests}
 use Rattle.std.proofs.lemmas.Int.{ints}
 use Rattle.exact_numbers.specs.Limit.{InLimit}
 use Rattle.exact_numbers.proofs.Ring.{mul_add, mul_zero}
-use Rattle.formula_meaning.specs.Combining.{AddWithin}
-use Rattle.formula_meaning.specs.Form.{Term, multiple}
-use Rattle.formula_meaning.specs.Sorted.{AllAbove, IsRising, AllNonzero, with_term}
-use Rattle.formula_meaning.proofs.Sorted.{here, elsewhere}
-use Rattle.linear_forms.specs.declared.form.VarId.{VarId}
+use Rattle.logic_meaning.specs.Combining.{AddWithin}
+use Rattle.logic_meaning.specs.Form.{Term, multiple}
+use Rattle.logic_meaning.specs.Sorted.{AllAbove, IsRising, AllNonzero, with_term}
+use Rattle.formula_laws.proofs.Sorted.{here, elsewhere}
+use Rattle.logic_meaning.specs.declared.form.VarId.{VarId}
 use Rattle.linear_forms.specs.Linear.{term_of, terms_of}
-use Rattle.linear_forms.specs.Terms.{AllInLimit}
+use Rattle.logic_meaning.specs.Terms.{AllInLimit}
 use Rattle.linear_forms.specs.Combinations.{IsLinear}
 use Rattle.linear_forms.proofs.Peeling.{terms_of-push}
 use Rattle.written_atoms.specs.Entries.{coefficient_at}

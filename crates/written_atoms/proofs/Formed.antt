@@ -6,14 +6,14 @@ use Rattle.std.specs.List.{list_all}
 use Rattle.std.proofs.lemmas.Bool.{cases_Bool, cases_eq, lt-ltb, le-ltb, ltb-true, and_from, and_parts, cond-true, cond-false}
 use Rattle.std.proofs.lemmas.Int.{ints}
 use Rattle.exact_numbers.specs.Limit.{InLimit, PastLimit}
-use Rattle.formula_meaning.specs.Form.{Form, Term, multiple, coefficients, coefficient}
-use Rattle.formula_meaning.specs.Sorted.{IsRising}
-use Rattle.formula_meaning.proofs.Sorted.{here, elsewhere, multiple_above}
-use Rattle.linear_forms.specs.Terms.{AllInLimit}
+use Rattle.logic_meaning.specs.Form.{Form, Term, multiple, coefficients, coefficient}
+use Rattle.logic_meaning.specs.Sorted.{IsRising}
+use Rattle.formula_laws.proofs.Sorted.{here, elsewhere, multiple_above}
+use Rattle.logic_meaning.specs.Terms.{AllInLimit}
 use Rattle.linear_forms.proofs.Search.{multiple_within}
-use Rattle.resolved_formulas.specs.FractionRule.{◌>>=◌}
-use Rattle.formula_meaning.specs.Limits.{is_within}
-use Rattle.resolved_formulas.specs.RationalForms.{Overflow, numbers_of, formed_number, formed_form}
+use Rattle.language_meaning.specs.FractionRule.{◌>>=◌}
+use Rattle.logic_meaning.specs.Limits.{is_within}
+use Rattle.language_meaning.specs.RationalForms.{Overflow, numbers_of, formed_number, formed_form}
 
 -- what two calculations one after the other give
 pub then_ok : {A B E : Type 0} (r : Result A E) (x : A) (f : A → Result B E) → r ≡ Ok x → (r >>= f) ≡ f x

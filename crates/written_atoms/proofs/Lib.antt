@@ -8,3 +8,4 @@ pub mod AtomsRead
 pub mod EntryTerms
 pub mod Multiples
 pub mod SharedSums
+pub mod FromResolvedFormulas

@@ -9,12 +9,12 @@ use Rattle.exact_numbers.specs.Division.{DividesAll}
 use Rattle.exact_numbers.proofs.Ring.{mul_add, mul_assoc, mul_one}
 use Rattle.exact_numbers.proofs.Contents.{content_is}
 use Rattle.exact_numbers.proofs.Divisibility.{divides_both, divides_along, cancel_divides, mul_divides_mul}
-use Rattle.formula_meaning.specs.Form.{Form, Term, coefficients, scaled, scale}
-use Rattle.formula_meaning.specs.Combining.{AddWithin}
-use Rattle.linear_forms.specs.Reduction.{quotient, quotients}
+use Rattle.logic_meaning.specs.Form.{Form, Term, coefficients, scaled, scale}
+use Rattle.logic_meaning.specs.Combining.{AddWithin}
+use Rattle.logic_meaning.specs.Reduction.{quotient, quotients}
 use Rattle.linear_forms.proofs.Division.{quotient_within}
 use Rattle.linear_forms.proofs.Reduced.{quotient_is}
-use Rattle.resolved_formulas.specs.RationalForms.{RationalForm, numbers_of, lowest_form}
+use Rattle.language_meaning.specs.RationalForms.{RationalForm, numbers_of, lowest_form}
 use Rattle.resolved_formulas.specs.LowestForms.{IsLowestForm}
 
 pub not_zero : (k : ℤ) → pos 0 <ℤ k → ¬ (k ≡ pos 0)

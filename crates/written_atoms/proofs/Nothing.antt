@@ -9,19 +9,19 @@ use Rattle.exact_numbers.specs.Limit.{InLimit}
 use Rattle.exact_numbers.specs.Divides.{lcm_of, gcd_of, euclid}
 use Rattle.exact_numbers.specs.Frac.{whole_frac}
 use Rattle.exact_numbers.proofs.Ring.{one_mul, mul_one, mul_zero, zero_mul}
-use Rattle.formula_meaning.specs.Point.{Point}
-use Rattle.formula_meaning.specs.Combining.{AddWithin}
-use Rattle.formula_meaning.specs.Sorted.{IsSorted}
-use Rattle.formula_meaning.proofs.Sorted.{scale_sorted}
-use Rattle.formula_meaning.specs.Context.{Context}
-use Rattle.formula_meaning.specs.Form.{Form, coefficient, scale, value}
+use Rattle.logic_meaning.specs.Point.{Point}
+use Rattle.logic_meaning.specs.Combining.{AddWithin}
+use Rattle.logic_meaning.specs.Sorted.{IsSorted}
+use Rattle.formula_laws.proofs.Sorted.{scale_sorted}
+use Rattle.logic_meaning.specs.Context.{Context}
+use Rattle.logic_meaning.specs.Form.{Form, coefficient, scale, value}
 use Rattle.linear_forms.specs.Combinations.{IsLinear, IsCombination}
 use Rattle.linear_forms.proofs.Reduced.{quotient_is}
 use Rattle.linear_forms.proofs.Quotients.{one_quotient}
-use Rattle.qe_syntax.specs.declared.tree.Literal.TheVariants.{Fits}
-use Rattle.qe_syntax.specs.Trees.{TermTree, Number}
-use Rattle.resolved_formulas.specs.FractionRule.{◌>>=◌}
-use Rattle.resolved_formulas.specs.RationalForms.{RationalForm, Missing, constant_form, formed, formed_difference, sum_of_forms, opposite_form}
+use Rattle.language_meaning.specs.declared.tree.Literal.TheVariants.{Fits}
+use Rattle.language_meaning.specs.Trees.{TermTree, Number}
+use Rattle.language_meaning.specs.FractionRule.{◌>>=◌}
+use Rattle.language_meaning.specs.RationalForms.{RationalForm, Missing, constant_form, formed, formed_difference, sum_of_forms, opposite_form}
 use Rattle.resolved_formulas.specs.LowestForms.{IsLowestForm}
 use Rattle.resolved_formulas.proofs.LowestForms.{form_is_lowest}
 use Rattle.written_atoms.specs.declared.rational.Rational.{Rational}

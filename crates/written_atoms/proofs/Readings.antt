@@ -6,13 +6,13 @@ use Rattle.std.specs.Ordering.{int_eq}
 use Rattle.std.proofs.lemmas.Bool.{ltb-true, lt-ltb, not-true}
 use Rattle.std.proofs.lemmas.Bool.Decides.{Decides-int_eq}
 use Rattle.exact_numbers.specs.Frac.{whole_frac}
-use Rattle.formula_meaning.specs.Context.{Context, Fields, Integers}
-use Rattle.qe_syntax.specs.declared.tree.Literal.{Literal}
-use Rattle.qe_syntax.specs.declared.tree.Literal.TheVariants.{Fits, Past}
-use Rattle.qe_syntax.specs.Trees.{TermTree, TermTrees, Sum, Product, Quotient, Power, Negative, none, also}
-use Rattle.resolved_formulas.specs.FractionRule.{added, multiplied, ◌>>=◌}
-use Rattle.resolved_formulas.specs.RationalForms.{RationalForm, Missing, is_constant, constant_form, formed, forms, sum_of_forms, product_of_forms, quotient_of_forms, power_of_form, opposite_form}
-use Rattle.resolved_formulas.specs.Causes.{IsVarying, IsNoDivisor, IsAboveOne, IsForbidden, MultipliesNames, HaveNonlinear, HaveForbidden, IsMissing}
+use Rattle.logic_meaning.specs.Context.{Context, Fields, Integers}
+use Rattle.language_meaning.specs.declared.tree.Literal.{Literal}
+use Rattle.language_meaning.specs.declared.tree.Literal.TheVariants.{Fits, Past}
+use Rattle.language_meaning.specs.Trees.{TermTree, TermTrees, Sum, Product, Quotient, Power, Negative, none, also}
+use Rattle.language_meaning.specs.FractionRule.{added, multiplied, ◌>>=◌}
+use Rattle.language_meaning.specs.RationalForms.{RationalForm, Missing, is_constant, constant_form, formed, forms, sum_of_forms, product_of_forms, quotient_of_forms, power_of_form, opposite_form}
+use Rattle.language_meaning.specs.Causes.{IsVarying, IsNoDivisor, IsAboveOne, IsForbidden, MultipliesNames, HaveNonlinear, HaveForbidden, IsMissing}
 use Rattle.written_atoms.specs.declared.rational.Rational.{Rational}
 use Rattle.written_atoms.specs.declared.term.ReadTerm.{ReadTerm}
 use Rattle.written_atoms.specs.declared.term.ReadSum.{ReadSum}

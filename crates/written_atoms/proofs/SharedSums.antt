@@ -1,9 +1,8 @@
 -- A sum that is kept as a multiple of the fraction rule's form.
 use Rattle.std.proofs.Common.{◌≡◌, ℕ, [], ◌∷◌, Some, None, ap, sym, ◌∙◌, subst, refl, arith}
 use Rattle.std.proofs.Math.IntN.{ℤ, pos, ◌+ℤ◌, ◌*ℤ◌}
-use Rattle.std.specs.Prelude.{◌≤ℤ◌, ◌<ℤ◌, int_div, Result, Ok, Err}
+use Rattle.std.specs.Prelude.{◌≤ℤ◌, ◌<ℤ◌, int_div, Result, Ok, Err, IfOk}
 use Rattle.std.specs.declared.alloc.AllocError.{AllocError}
-use Rattle.std.specs.Prelude.{IfOk}
 use Rattle.std.proofs.lemmas.Int.{ints}
 use Rattle.exact_numbers.specs.Limit.{InLimit}
 use Rattle.exact_numbers.specs.Divides.{Divides, lcm_of, content_of}
@@ -12,19 +11,19 @@ use Rattle.exact_numbers.proofs.Ring.{mul_comm, mul_assoc, one_mul}
 use Rattle.exact_numbers.proofs.Order.{mul_positive, factor_positive, cancel_positive}
 use Rattle.exact_numbers.proofs.Contents.{content_is}
 use Rattle.exact_numbers.proofs.LeastMultiple.{exact_div, lcm_is}
-use Rattle.formula_meaning.specs.Form.{Form, coefficient, scale, combine}
-use Rattle.formula_meaning.specs.Sorted.{IsSorted, gathered}
-use Rattle.formula_meaning.specs.Combining.{AddWithin}
-use Rattle.formula_meaning.proofs.Values.{value_combine}
-use Rattle.formula_meaning.proofs.Coefficients.{coefficient_combine, coefficient_scale}
-use Rattle.formula_meaning.proofs.Sorted.{sorted_determined, scale_sorted}
-use Rattle.formula_meaning.proofs.Gathered.{value_gathered, gathered_sorted, coefficient_gathered, constant_gathered}
-use Rattle.linear_forms.specs.Reduction.{quotient}
+use Rattle.logic_meaning.specs.Form.{Form, coefficient, scale, combine}
+use Rattle.logic_meaning.specs.Sorted.{IsSorted, gathered}
+use Rattle.logic_meaning.specs.Combining.{AddWithin}
+use Rattle.formula_laws.proofs.Values.{value_combine}
+use Rattle.formula_laws.proofs.Coefficients.{coefficient_combine, coefficient_scale}
+use Rattle.formula_laws.proofs.Sorted.{sorted_determined, scale_sorted}
+use Rattle.formula_laws.proofs.Gathered.{value_gathered, gathered_sorted, coefficient_gathered, constant_gathered}
+use Rattle.logic_meaning.specs.Reduction.{quotient}
 use Rattle.linear_forms.specs.Combinations.{IsLinear, IsCombination}
 use Rattle.linear_forms.proofs.Quotients.{multiple_quotients, sorted_quotient}
 use Rattle.linear_forms.proofs.Search.{multiple_within}
-use Rattle.resolved_formulas.specs.FractionRule.{◌>>=◌}
-use Rattle.resolved_formulas.specs.RationalForms.{RationalForm, Missing, numbers_of, lowest_form, sum_of_forms}
+use Rattle.language_meaning.specs.FractionRule.{◌>>=◌}
+use Rattle.language_meaning.specs.RationalForms.{RationalForm, Missing, numbers_of, lowest_form, sum_of_forms}
 use Rattle.resolved_formulas.specs.LowestForms.{IsLowestForm}
 use Rattle.resolved_formulas.proofs.FormSteps.{content_not_zero}
 use Rattle.resolved_formulas.proofs.LowestForms.{lowest_lowest, sum_lowest}

@@ -11,12 +11,12 @@ use Rattle.exact_numbers.specs.Division.{DividesAll}
 use Rattle.exact_numbers.specs.Frac.{Frac, IsLowest, inverted, power_steps}
 use Rattle.exact_numbers.proofs.Contents.{content_is}
 use Rattle.exact_numbers.proofs.Divisibility.{one_divides, neg_divides}
-use Rattle.formula_meaning.specs.Context.{Fields, Integers}
-use Rattle.formula_meaning.specs.Form.{Form, Term}
-use Rattle.linear_forms.specs.Reduction.{quotient}
+use Rattle.logic_meaning.specs.Context.{Fields, Integers}
+use Rattle.logic_meaning.specs.Form.{Form, Term}
+use Rattle.logic_meaning.specs.Reduction.{quotient}
 use Rattle.linear_forms.proofs.Quotients.{quotient_minus_one}
-use Rattle.qe_syntax.specs.declared.tree.Literal.TheVariants.{Fits, Past}
-use Rattle.resolved_formulas.specs.RationalForms.{RationalForm, Missing, Overflow, Nonlinear, Division, numbers_of, is_empty, is_constant, constant_form, constant_of, multiple_of_form, product_of_forms, quotient_of_forms, small_power, as_constant, power_of_form, opposite_form}
+use Rattle.language_meaning.specs.declared.tree.Literal.TheVariants.{Fits, Past}
+use Rattle.language_meaning.specs.RationalForms.{RationalForm, Missing, Overflow, Nonlinear, Division, numbers_of, is_empty, is_constant, constant_form, constant_of, multiple_of_form, product_of_forms, quotient_of_forms, small_power, as_constant, power_of_form, opposite_form}
 use Rattle.resolved_formulas.specs.LowestForms.{IsLowestForm}
 use Rattle.written_atoms.specs.Rational.{there, is_divisor}
 

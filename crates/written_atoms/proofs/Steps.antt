@@ -12,17 +12,17 @@ use Rattle.exact_numbers.proofs.Ring.{mul_zero, zero_mul}
 use Rattle.exact_numbers.proofs.Order.{by_order, factor_positive}
 use Rattle.exact_numbers.proofs.Contents.{content_is}
 use Rattle.exact_numbers.proofs.LeastMultiple.{exact_div, lcm_is}
-use Rattle.formula_meaning.specs.Form.{Form, coefficient, coefficients, scale, combine}
-use Rattle.formula_meaning.specs.Sorted.{IsSorted, gathered}
-use Rattle.formula_meaning.specs.Combining.{CombinePasses}
-use Rattle.formula_meaning.proofs.Coefficients.{coefficient_scale, coefficient_combine}
-use Rattle.formula_meaning.proofs.Sorted.{scale_sorted}
-use Rattle.formula_meaning.proofs.Gathered.{gathered_is, gathered_sorted, coefficient_gathered, constant_gathered}
+use Rattle.logic_meaning.specs.Form.{Form, coefficient, coefficients, scale, combine}
+use Rattle.logic_meaning.specs.Sorted.{IsSorted, gathered}
+use Rattle.logic_meaning.specs.Combining.{CombinePasses}
+use Rattle.formula_laws.proofs.Coefficients.{coefficient_scale, coefficient_combine}
+use Rattle.formula_laws.proofs.Sorted.{scale_sorted}
+use Rattle.formula_laws.proofs.Gathered.{gathered_is, gathered_sorted, coefficient_gathered, constant_gathered}
 use Rattle.linear_forms.specs.Combinations.{IsCombination}
-use Rattle.linear_forms.specs.Reduction.{quotient}
+use Rattle.logic_meaning.specs.Reduction.{quotient}
 use Rattle.linear_forms.proofs.Quotients.{quotient_one, one_quotient}
-use Rattle.resolved_formulas.specs.FractionRule.{◌>>=◌}
-use Rattle.resolved_formulas.specs.RationalForms.{RationalForm, Missing, Overflow, numbers_of, formed_number, formed_form, lowest_form, sum_of_forms, multiple_of_form}
+use Rattle.language_meaning.specs.FractionRule.{◌>>=◌}
+use Rattle.language_meaning.specs.RationalForms.{RationalForm, Missing, Overflow, numbers_of, formed_number, formed_form, lowest_form, sum_of_forms, multiple_of_form}
 use Rattle.resolved_formulas.proofs.FormSteps.{content_not_zero}
 use Rattle.written_atoms.specs.Rational.{there}
 use Rattle.written_atoms.proofs.Formed.{then_ok, then_err, number_within, number_past, IsFormWithin, form_within, form_cases, constant_past, coefficient_past, coefficient_within, by_coefficients}

@@ -1,12 +1,12 @@
 -- How large terms are: parts are smaller than the whole.
 use Rattle.std.proofs.Common.{◌≡◌, ◌<◌, ◌+◌, ℕ, suc, zero, List, [], ◌∷◌, length, get_or, map, ap, ◌∙◌, arith}
-use Rattle.qe_syntax.specs.declared.tree.Term as code
-use Rattle.qe_syntax.specs.declared.tree.Term.TheVariants as term
-use Rattle.qe_syntax.specs.declared.tree.Terms as codes
-use Rattle.qe_syntax.specs.declared.tree.Literal.{Literal}
-use Rattle.qe_syntax.proofs.TreeEquations.{tree-Sum, tree-Product, tree-Number, tree-Name}
-use Rattle.qe_syntax.specs.Trees.{TermTree, TermTrees, Number, Named, Sum, Product, Quotient, Power, Negative, none, also, terms_of}
-use Rattle.qe_syntax.specs.CodeTrees.{term_tree, term_trees}
+use Rattle.written_syntax.specs.declared.tree.Term as code
+use Rattle.written_syntax.specs.declared.tree.Term.TheVariants as term
+use Rattle.written_syntax.specs.declared.tree.Terms as codes
+use Rattle.language_meaning.specs.declared.tree.Literal.{Literal}
+use Rattle.written_syntax.proofs.TreeEquations.{tree-Sum, tree-Product, tree-Number, tree-Name}
+use Rattle.language_meaning.specs.Trees.{TermTree, TermTrees, Number, Named, Sum, Product, Quotient, Power, Negative, none, also, terms_of}
+use Rattle.written_syntax.specs.CodeTrees.{term_tree, term_trees}
 
 abbrev mutual
   pub term_size : TermTree → ℕ

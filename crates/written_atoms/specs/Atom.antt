@@ -1,14 +1,14 @@
 -- What is known of the normal atom that is made of forms.
 use Rattle.std.specs.Prelude.{◌≡◌, ◌⊎◌, Bool, IsTrue, IsNone, Option, MatchOption, Result}
-use Rattle.formula_meaning.specs.Context.{Context, Fields}
-use Rattle.formula_meaning.specs.Tree.{Tree}
-use Rattle.atom_normal.specs.Atoms.{tree_of, IsWellFormedNormal}
-use Rattle.atom_normal.specs.NormalForm.{ConstantPasses}
-use Rattle.atom_normal.specs.declared.atoms.Normal.{Normal}
-use Rattle.qe_syntax.specs.declared.tree.Relation.{Relation}
-use Rattle.resolved_formulas.specs.RationalForms.{RationalForm, Missing}
-use Rattle.resolved_formulas.specs.Resolving.{compared, congruent}
-use Rattle.resolved_formulas.specs.Causes.{IsMissing}
+use Rattle.logic_meaning.specs.Context.{Context, Fields}
+use Rattle.logic_meaning.specs.Tree.{Tree}
+use Rattle.normal_atoms.specs.Atoms.{tree_of, IsWellFormedNormal}
+use Rattle.logic_meaning.specs.NormalForm.{ConstantPasses}
+use Rattle.normal_atoms.specs.declared.atoms.Normal.{Normal}
+use Rattle.language_meaning.specs.declared.tree.Relation.{Relation}
+use Rattle.language_meaning.specs.RationalForms.{RationalForm, Missing}
+use Rattle.language_meaning.specs.Resolving.{compared, congruent}
+use Rattle.language_meaning.specs.Causes.{IsMissing}
 use Rattle.written_atoms.specs.declared.rational.Rational.{Rational}
 use Rattle.written_atoms.specs.Rational.{Shows}
 use Rattle.written_atoms.specs.Term.{is_no_divisor}

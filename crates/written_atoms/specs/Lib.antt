@@ -4,3 +4,4 @@ pub mod Sum
 pub mod Term
 pub mod Atom
 pub mod Read
+pub mod FromResolvedFormulas

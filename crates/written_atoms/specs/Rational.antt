@@ -1,7 +1,7 @@
 -- The program's forms over a denominator, and the steps of the fraction rule on them.
 use Rattle.std.specs.Prelude.{pos, Bool, not, ◌&&◌, Option, Some, None, option_map, Result, Ok, Err, ◌≡◌}
 use Rattle.std.specs.Ordering.{int_eq}
-use Rattle.resolved_formulas.specs.RationalForms.{RationalForm, Missing, is_constant}
+use Rattle.language_meaning.specs.RationalForms.{RationalForm, Missing, is_constant}
 use Rattle.written_atoms.specs.declared.rational.Rational.{Rational}
 
 -- the form over its denominator

@@ -1,10 +1,10 @@
 -- What is known of a written comparison or congruence once it is read.
 use Rattle.std.specs.Prelude.{◌≡◌, ◌⊎◌, ◌↔◌, ℕ, List, Bool, true, false, IsTrue, MatchOption}
-use Rattle.formula_meaning.specs.Context.{Context, Fields}
-use Rattle.atom_normal.specs.Atoms.{tree_of, IsWellFormedNormal}
-use Rattle.qe_syntax.specs.Trees.{TermTree, WrittenAtom, Cong, Ncong}
-use Rattle.resolved_formulas.specs.Resolving.{BoundTrees, resolved_atom}
-use Rattle.resolved_formulas.specs.Causes.{SomeTerm, HasNonlinear, HasForbidden, HasBadModulus, HasPast, PassesInReading, IsCongruence}
+use Rattle.logic_meaning.specs.Context.{Context, Fields}
+use Rattle.normal_atoms.specs.Atoms.{tree_of, IsWellFormedNormal}
+use Rattle.language_meaning.specs.Trees.{TermTree, WrittenAtom, Cong, Ncong}
+use Rattle.language_meaning.specs.Resolving.{BoundTrees, resolved_atom}
+use Rattle.language_meaning.specs.Causes.{SomeTerm, HasNonlinear, HasForbidden, HasBadModulus, HasPast, PassesInReading, IsCongruence}
 use Rattle.written_atoms.specs.declared.read.AtomCauses.{AtomCauses}
 use Rattle.written_atoms.specs.declared.read.ReadAtom.{ReadAtom}
 

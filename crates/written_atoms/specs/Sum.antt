@@ -1,12 +1,12 @@
 -- Sums kept by name over one denominator, as multiples of the forms that the fraction rule has.
 use Rattle.std.specs.Prelude.{◌≡◌, ℕ, ℤ, pos, ◌+ℤ◌, ◌*ℤ◌, ◌<ℤ◌, Option, None, Result, Ok}
-use Rattle.formula_meaning.specs.Combining.{AddWithin}
-use Rattle.formula_meaning.specs.Form.{Form, coefficient}
-use Rattle.formula_meaning.specs.Sorted.{IsSorted}
-use Rattle.resolved_formulas.specs.RationalForms.{RationalForm, sum_of_forms}
+use Rattle.logic_meaning.specs.Combining.{AddWithin}
+use Rattle.logic_meaning.specs.Form.{Form, coefficient}
+use Rattle.logic_meaning.specs.Sorted.{IsSorted}
+use Rattle.language_meaning.specs.RationalForms.{RationalForm, sum_of_forms}
 use Rattle.resolved_formulas.specs.LowestForms.{IsLowestForm}
-use Rattle.resolved_formulas.specs.RationalForms as rule
-use Rattle.resolved_formulas.specs.FractionRule.{◌>>=◌}
+use Rattle.language_meaning.specs.RationalForms as rule
+use Rattle.language_meaning.specs.FractionRule.{◌>>=◌}
 use Rattle.written_atoms.specs.declared.rational.Rational.{Rational}
 use Rattle.written_atoms.specs.declared.sum.WholeSum.{WholeSum}
 use Rattle.written_atoms.specs.declared.sum.SharedSum.{SharedSum}

@@ -1,12 +1,12 @@
 -- What is known of a term once it is read, and what each step makes of what was read of its parts.
 use Rattle.std.specs.Prelude.{◌≡◌, ◌↔◌, ◌⊎◌, ℕ, List, Bool, true, false, not, ◌&&◌, ◌||◌, unsigned_abs, nat_lt, Option, Some, None, IsNone, option_map, MatchOption, Result, Ok, IsTrue, pos}
 use Rattle.std.specs.declared.alloc.AllocError.{AllocError}
-use Rattle.formula_meaning.specs.Context.{Context, Fields, Integers}
-use Rattle.qe_syntax.specs.declared.tree.Literal.{Literal}
-use Rattle.qe_syntax.specs.declared.tree.Literal.TheVariants.{Fits, Past}
-use Rattle.qe_syntax.specs.Trees.{TermTree}
-use Rattle.resolved_formulas.specs.RationalForms.{RationalForm, Missing, is_constant, constant_form, formed, formed_difference, sum_of_forms, product_of_forms, quotient_of_forms, power_of_form, opposite_form}
-use Rattle.resolved_formulas.specs.Causes.{HasNonlinear, HasForbidden}
+use Rattle.logic_meaning.specs.Context.{Context, Fields, Integers}
+use Rattle.language_meaning.specs.declared.tree.Literal.{Literal}
+use Rattle.language_meaning.specs.declared.tree.Literal.TheVariants.{Fits, Past}
+use Rattle.language_meaning.specs.Trees.{TermTree}
+use Rattle.language_meaning.specs.RationalForms.{RationalForm, Missing, is_constant, constant_form, formed, formed_difference, sum_of_forms, product_of_forms, quotient_of_forms, power_of_form, opposite_form}
+use Rattle.language_meaning.specs.Causes.{HasNonlinear, HasForbidden}
 use Rattle.written_atoms.specs.Rational.{rational_of, there, is_divisor, Shows}
 use Rattle.written_atoms.specs.declared.rational.Rational.{Rational}
 use Rattle.exact_numbers.specs.Frac.{whole_frac}

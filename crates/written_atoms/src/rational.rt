@@ -1,10 +1,11 @@
 ghost use Rattle.std.specs.Prelude.{◌≡◌, pos, ◌<ℤ◌};
 ghost use Rattle.exact_numbers.specs.Limit.{InLimit};
 
-use atom_normal::Context;
 use exact_numbers::{Fraction, gcd, lcm, product};
-use linear_forms::{LinError, Linear, VarId};
-use qe_syntax::Literal;
+use language_meaning::Literal;
+use linear_forms::{LinError, Linear};
+use logic_meaning::VarId;
+use normal_atoms::Context;
 use std::alloc::{AllocError, Global};
 
 /// A linear form over a positive denominator.
@@ -25,9 +26,9 @@ impl Rational {
     ghost use Rattle.exact_numbers.specs.Division.{DividesAll};
     ghost use Rattle.exact_numbers.specs.Fraction.{frac_of};
     ghost use Rattle.linear_forms.specs.Combinations.{IsLinear};
-    ghost use Rattle.qe_syntax.specs.Proper.{IsNumeral};
-    ghost use Rattle.atom_normal.specs.Atoms.{context_of};
-    ghost use Rattle.resolved_formulas.specs.RationalForms.{numbers_of, is_constant, constant_form, constant_of, variable_form, lowest_form, sum_of_forms, multiple_of_form, product_of_forms, quotient_of_forms, power_of_form, opposite_form};
+    ghost use Rattle.written_syntax.specs.Proper.{IsNumeral};
+    ghost use Rattle.normal_atoms.specs.Atoms.{context_of};
+    ghost use Rattle.language_meaning.specs.RationalForms.{numbers_of, is_constant, constant_form, constant_of, variable_form, lowest_form, sum_of_forms, multiple_of_form, product_of_forms, quotient_of_forms, power_of_form, opposite_form};
     ghost use Rattle.resolved_formulas.specs.LowestForms.{IsLowestForm};
     ghost use Rattle.written_atoms.specs.Rational.{rational_of, there, is_divisor};
 

@@ -1,25 +1,26 @@
 ghost use Rattle.std.specs.Prelude.{◌≡◌, ℕ, List, IfOk};
 ghost use Rattle.std.specs.Option.{ForSome};
 ghost use Rattle.linear_forms.specs.Combinations.{IsLinear};
-ghost use Rattle.qe_syntax.specs.Proper.{IsProperTerm};
-ghost use Rattle.qe_syntax.specs.Trees.{TermTree, Compare};
-ghost use Rattle.qe_syntax.specs.CodeTrees.{term_tree};
-ghost use Rattle.qe_syntax.specs.Value.{relation_of as written_relation};
-ghost use Rattle.formula_meaning.specs.TheoryAtoms.{AtomIn};
-ghost use Rattle.atom_normal.specs.NormalForm.{normal_atom};
-ghost use Rattle.atom_normal.specs.Atoms.{context_of, relation_of, atom_of, IsWellFormed, IsWellFormedNormal};
-ghost use Rattle.resolved_formulas.specs.Resolving.{BoundTrees};
-ghost use Rattle.formula_tree.specs.Names.{place};
+ghost use Rattle.written_syntax.specs.Proper.{IsProperTerm};
+ghost use Rattle.language_meaning.specs.Trees.{TermTree, Compare};
+ghost use Rattle.written_syntax.specs.CodeTrees.{term_tree};
+ghost use Rattle.language_meaning.specs.Value.{relation_of as written_relation};
+ghost use Rattle.formula_laws.specs.TheoryAtoms.{AtomIn};
+ghost use Rattle.logic_meaning.specs.NormalForm.{normal_atom};
+ghost use Rattle.normal_atoms.specs.Atoms.{context_of, relation_of, atom_of, IsWellFormed, IsWellFormedNormal};
+ghost use Rattle.language_meaning.specs.Resolving.{BoundTrees};
+ghost use Rattle.logic_meaning.specs.Names.{place};
 ghost use Rattle.written_atoms.specs.Atom.{IsNormalWithin, IsCompared, IsCongruenceMade};
 ghost use Rattle.written_atoms.specs.Read.{IsRead, congruence_tree};
 ghost use Rattle.written_atoms.specs.Term.{IsTermRead, IsDifferenceRead};
 
 use crate::rational::Rational;
 use crate::term::{ReadTerm, read_difference, read_term};
-use atom_normal::{Atom, AtomError, Context, Normal, Rel, normal};
 use formula_tree::Names;
-use qe_syntax::{Relation, Term};
+use language_meaning::Relation;
+use normal_atoms::{Atom, AtomError, Context, Normal, Rel, normal};
 use std::alloc::{AllocError, Global};
+use written_syntax::Term;
 
 /// Which causes of a refusal stand in a written comparison or congruence.
 #[derive(Clone, Copy, Debug, PartialEq, Eq)]

@@ -1,11 +1,12 @@
 ghost use Rattle.std.specs.Prelude.{ℕ, ◌≡◌, pos, ◌+ℤ◌, ◌*ℤ◌, ◌<ℤ◌, IsTrue};
 ghost use Rattle.exact_numbers.specs.Limit.{InLimit};
-ghost use Rattle.formula_meaning.specs.Combining.{AddWithin};
+ghost use Rattle.logic_meaning.specs.Combining.{AddWithin};
 ghost use Rattle.written_atoms.specs.Entries.{coefficient_at};
 
 use crate::rational::Rational;
 use exact_numbers::{lcm, product, sum};
-use linear_forms::{Linear, VarId};
+use linear_forms::Linear;
+use logic_meaning::VarId;
 use std::alloc::{AllocError, Global};
 use std::collections::BTreeMap;
 
@@ -174,7 +175,7 @@ impl SharedSum {
     ghost use Rattle.std.specs.Prelude.{Some, IfOk, MatchBool};
     ghost use Rattle.exact_numbers.specs.Divides.{Divides};
     ghost use Rattle.linear_forms.specs.Combinations.{IsLinear};
-    ghost use Rattle.resolved_formulas.specs.RationalForms.{RationalForm};
+    ghost use Rattle.language_meaning.specs.RationalForms.{RationalForm};
     ghost use Rattle.resolved_formulas.specs.LowestForms.{IsLowestForm};
     ghost use Rattle.written_atoms.specs.Rational.{rational_of};
     ghost use Rattle.written_atoms.specs.Sum.{IsMultipleOf, StaysMultiple, IsSummed};
@@ -260,7 +261,7 @@ pub(crate) enum RunningSum {
 impl RunningSum {
     ghost use Rattle.std.specs.Prelude.{Result, Ok, IfOk};
     ghost use Rattle.exact_numbers.specs.Frac.{whole_frac};
-    ghost use Rattle.resolved_formulas.specs.RationalForms.{RationalForm, Missing, constant_form};
+    ghost use Rattle.language_meaning.specs.RationalForms.{RationalForm, Missing, constant_form};
     ghost use Rattle.written_atoms.specs.Rational.{Shows};
     ghost use Rattle.written_atoms.specs.Sum.{ShowsSum, IsSummed};
 

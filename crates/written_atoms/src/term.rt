@@ -1,26 +1,27 @@
 ghost use Rattle.std.specs.Prelude.{◌≡◌, ℕ, List, false, pos, Ok, map, IfOk, IsTrue};
-ghost use Rattle.qe_syntax.specs.declared.tree.Literal.TheVariants.{Fits};
+ghost use Rattle.language_meaning.specs.declared.tree.Literal.TheVariants.{Fits};
 ghost use Rattle.std.specs.Option.{ForSome};
 ghost use Rattle.std.specs.Result.{ForOk};
-ghost use Rattle.formula_meaning.specs.Context as meaning;
+ghost use Rattle.logic_meaning.specs.Context as meaning;
 ghost use Rattle.linear_forms.specs.Combinations.{IsLinear};
-ghost use Rattle.atom_normal.specs.Atoms.{context_of};
-ghost use Rattle.qe_syntax.specs.Proper.{IsNumeral, IsProperTerm, AreProperTerms};
-ghost use Rattle.qe_syntax.specs.Trees.{TermTree, terms_of, Number, Named, Sum, Product};
-ghost use Rattle.qe_syntax.specs.CodeTrees.{term_tree};
+ghost use Rattle.normal_atoms.specs.Atoms.{context_of};
+ghost use Rattle.written_syntax.specs.Proper.{IsNumeral, IsProperTerm, AreProperTerms};
+ghost use Rattle.language_meaning.specs.Trees.{TermTree, terms_of, Number, Named, Sum, Product};
+ghost use Rattle.written_syntax.specs.CodeTrees.{term_tree};
 ghost use Rattle.resolved_formulas.specs.LowestForms.{IsLowestForm};
-ghost use Rattle.formula_tree.specs.Names.{place};
+ghost use Rattle.logic_meaning.specs.Names.{place};
 ghost use Rattle.written_atoms.specs.Rational.{rational_of};
 ghost use Rattle.written_atoms.specs.Term.{Given, IsTermRead, IsNoSum, IsSumPlus, IsWholeSum, IsDifferenceRead, varies, is_no_divisor, is_forbidden, is_above_one, IsPlus, IsTimes, IsOver, IsPower, IsOpposite};
 
 use crate::rational::Rational;
 use crate::sum::RunningSum;
-use atom_normal::Context;
 use exact_numbers::Fraction;
 use formula_tree::Names;
-use linear_forms::VarId;
-use qe_syntax::{Literal, Name, Term};
+use language_meaning::Literal;
+use logic_meaning::{Name, VarId};
+use normal_atoms::Context;
 use std::alloc::{AllocError, Global};
+use written_syntax::Term;
 
 /// What is read of a term: its form, where it has one, and which causes of a refusal stand in it.
 #[derive(Drop)]
@@ -327,7 +328,7 @@ fn power_of(
 }
 
 /// Reads a term in one pass: each part's form is made once. The recursion is as deep as the term.
-#[tactic(auto, using(qe_syntax::proofs::TreeEquations::trees))]
+#[tactic(auto, using(written_syntax::proofs::TreeEquations::trees))]
 #[cycle(reading)]
 pub(crate) fn read_term(
     alloc: Global,

@@ -1,10 +1,10 @@
 use Rattle.std.proofs.Common.{◌≡◌, ℕ, ℤ, pos, ◌+ℤ◌, ◌<ℤ◌, ◌≤ℤ◌, FitsSigned, ap, ◌∙◌, subst, arith, rules}
 use Rattle.std.specs.Int.{w128}
 use Rattle.std.proofs.lemmas.Int.{ints, to_z-of_z}
-use Rattle.formula_meaning.specs.Form.{Form, value}
-use Rattle.formula_meaning.specs.Point.{Point, Of}
-use Rattle.atom_normal.specs.Atoms.{context_of}
-use Rattle.atom_normal.proofs.Comparisons.{value_whole}
+use Rattle.logic_meaning.specs.Form.{Form, value}
+use Rattle.logic_meaning.specs.Point.{Point, Of}
+use Rattle.normal_atoms.specs.Atoms.{context_of}
+use Rattle.normal_atoms.proofs.Comparisons.{value_whole}
 use Rattle.atom_pruning.proofs.rows.below.Goals as goal
 
 -- at a whole point a form below 0 is at most 0 with a constant that is 1 more

@@ -1,7 +1,7 @@
 use Rattle.std.proofs.Common.{List, [], ◌∷◌, negsuc, ℤ}
 use Rattle.exact_numbers.specs.Division.{DividesAll}
 use Rattle.exact_numbers.proofs.Divisibility.{neg_divides, one_divides}
-use Rattle.linear_forms.specs.Terms.{coefficients}
+use Rattle.logic_meaning.specs.Terms.{coefficients}
 use Rattle.atom_pruning.proofs.rows.negated.Goals as goal
 
 minus_divides : (xs : List ℤ) → DividesAll (negsuc 0) xs

@@ -1,7 +1,7 @@
 use Rattle.std.proofs.Common.{◌≡◌, true, drop, is_some, nat_eq}
 use Rattle.std.specs.HashMap.{get}
-use Rattle.formula_meaning.specs.Some.{EachOf}
-use Rattle.linear_forms.specs.declared.form.VarId.{VarId}
+use Rattle.logic_meaning.specs.Some.{EachOf}
+use Rattle.logic_meaning.specs.declared.form.VarId.{VarId}
 use Rattle.branch_points.proofs.absent.absent_name.Given as goal
 
 -- all have an entry, if those that are left do

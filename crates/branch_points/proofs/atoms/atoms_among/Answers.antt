@@ -1,5 +1,5 @@
 use Rattle.std.proofs.Common.{List, ◌++◌, ap, sym, ◌∙◌, arith}
-use Rattle.atom_normal.specs.declared.atoms.Atom.{Atom}
+use Rattle.normal_atoms.specs.declared.atoms.Atom.{Atom}
 use Rattle.branch_points.specs.Chosen.{shape_atoms}
 use Rattle.branch_points.proofs.ListedAtoms.{listed_more, listed_all}
 use Rattle.branch_points.proofs.atoms.atoms_among.Goals as goal

@@ -5,7 +5,7 @@ use Rattle.std.proofs.lemmas.Result.{IfOk-weaker}
 use Rattle.formula_store.specs.Nodes.{tree}
 use Rattle.std.specs.HashMap.{get}
 use Rattle.formula_store.specs.declared.id.FormulaId.{FormulaId}
-use Rattle.atom_normal.specs.Atoms.{atom_of}
+use Rattle.normal_atoms.specs.Atoms.{atom_of}
 use Rattle.branch_points.specs.Chosen.{listed_atoms, AreAtomsOf, IsRootAmong, HasNoEquation, IsOnSide, IsChosen, IsByRule, NeedsCounting, conjuncts}
 use Rattle.branch_points.specs.declared.error.ChoiceError.TheVariants.{Memory}
 use Rattle.branch_points.specs.Ends.{AreEnds}

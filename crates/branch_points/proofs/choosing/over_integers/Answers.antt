@@ -1,12 +1,12 @@
 use Rattle.std.proofs.Common.{rules, ◌≡◌, ℕ, ◌<◌, ◌≤◌, false, Err, map, ap, refl, inl, inr}
 use Rattle.std.specs.Prelude.{IsTrue}
-use Rattle.formula_meaning.specs.Limits.{each, place_within}
-use Rattle.formula_meaning.proofs.Listed.{among_some}
-use Rattle.elimination_theory.specs.declared.side.Side.{Side}
-use Rattle.elimination_theory.specs.IntegersPoints.{integer_points_of, integer_count_of}
-use Rattle.linear_forms.specs.declared.form.VarId.{VarId}
-use Rattle.atom_normal.specs.declared.atoms.Context.TheVariants.{Integers}
-use Rattle.atom_normal.specs.Atoms.{atom_of}
+use Rattle.logic_meaning.specs.Limits.{each, place_within}
+use Rattle.formula_laws.proofs.Listed.{among_some}
+use Rattle.logic_meaning.specs.declared.side.Side.{Side}
+use Rattle.logic_meaning.specs.IntegersPoints.{integer_points_of, integer_count_of}
+use Rattle.logic_meaning.specs.declared.form.VarId.{VarId}
+use Rattle.normal_atoms.specs.declared.atoms.Context.TheVariants.{Integers}
+use Rattle.normal_atoms.specs.Atoms.{atom_of}
 use Rattle.branch_points.specs.declared.error.ChoiceError.TheVariants.{Overflow}
 use Rattle.branch_points.proofs.FewestPoints.{all_pass, each_count}
 use Rattle.branch_points.proofs.choosing.over_integers.Goals as goal

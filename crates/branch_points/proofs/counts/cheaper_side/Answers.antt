@@ -1,7 +1,7 @@
 use Rattle.std.proofs.Common.{map, Some}
-use Rattle.elimination_theory.specs.declared.side.Side.TheVariants.{Lower, Upper}
-use Rattle.atom_normal.specs.declared.atoms.Context.TheVariants.{Integers}
-use Rattle.atom_normal.specs.Atoms.{atom_of}
+use Rattle.logic_meaning.specs.declared.side.Side.TheVariants.{Lower, Upper}
+use Rattle.normal_atoms.specs.declared.atoms.Context.TheVariants.{Integers}
+use Rattle.normal_atoms.specs.Atoms.{atom_of}
 use Rattle.branch_points.proofs.FewestPoints.{candidate_has, either_side}
 use Rattle.branch_points.proofs.counts.cheaper_side.Goals as goal
 

@@ -1,8 +1,8 @@
 use Rattle.std.proofs.Common.{map, take}
 use Rattle.std.specs.Prelude.{IfSome}
-use Rattle.formula_meaning.specs.Some.{Among, EachOf}
-use Rattle.atom_normal.specs.declared.atoms.Context.TheVariants.{Integers}
-use Rattle.atom_normal.specs.Atoms.{atom_of}
+use Rattle.logic_meaning.specs.Some.{Among, EachOf}
+use Rattle.normal_atoms.specs.declared.atoms.Context.TheVariants.{Integers}
+use Rattle.normal_atoms.specs.Atoms.{atom_of}
 use Rattle.branch_points.specs.declared.counts.Candidate.{Candidate}
 use Rattle.branch_points.specs.Counts.{IsCandidate, IsBeaten}
 use Rattle.branch_points.proofs.counts.fewest.Given as goal

@@ -2,9 +2,9 @@ use Rattle.std.proofs.Common.{List, nat_eq, sym, subst, arith, rules, FitsSigned
 use Rattle.std.specs.Int.{w128}
 use Rattle.std.proofs.lemmas.Int.{to_z-of_z}
 use Rattle.std.specs.HashMap.{get}
-use Rattle.formula_meaning.specs.Form.{Term}
+use Rattle.logic_meaning.specs.Form.{Term}
 use Rattle.linear_forms.specs.Linear.{term_of}
-use Rattle.atom_normal.specs.Atoms.{atom_of}
+use Rattle.normal_atoms.specs.Atoms.{atom_of}
 use Rattle.branch_points.specs.Ends.{HaveTerm}
 use Rattle.branch_points.proofs.CountedEnds.{term_more, term_room, terms_all, no_term}
 use Rattle.branch_points.proofs.ends.count_atom.Goals as goal

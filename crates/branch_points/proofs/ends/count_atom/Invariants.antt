@@ -1,7 +1,7 @@
 use Rattle.std.proofs.Common.{take, nat_eq}
 use Rattle.std.specs.HashMap.{get}
-use Rattle.formula_meaning.specs.Form.{multiple}
-use Rattle.atom_normal.specs.Atoms.{atom_of}
+use Rattle.logic_meaning.specs.Form.{multiple}
+use Rattle.normal_atoms.specs.Atoms.{atom_of}
 use Rattle.branch_points.specs.Ends.{HaveMore}
 use Rattle.branch_points.proofs.ends.count_atom.Given as goal
 

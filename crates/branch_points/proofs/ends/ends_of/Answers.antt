@@ -1,7 +1,7 @@
 use Rattle.std.proofs.Common.{◌<◌, ◌^◌, length, List, map, nat_eq, subst, arith}
 use Rattle.std.specs.HashMap.{get}
-use Rattle.atom_normal.specs.declared.atoms.Atom.{Atom}
-use Rattle.atom_normal.specs.Atoms.{atom_of}
+use Rattle.normal_atoms.specs.declared.atoms.Atom.{Atom}
+use Rattle.normal_atoms.specs.Atoms.{atom_of}
 use Rattle.branch_points.specs.Ends.{AreEnds}
 use Rattle.branch_points.proofs.ListedAtoms.{listed_all}
 use Rattle.branch_points.proofs.CountedEnds.{ends_room, node_more}

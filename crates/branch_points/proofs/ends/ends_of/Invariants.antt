@@ -1,6 +1,6 @@
 use Rattle.std.proofs.Common.{take, map, nat_eq}
 use Rattle.std.specs.HashMap.{get}
-use Rattle.atom_normal.specs.Atoms.{atom_of}
+use Rattle.normal_atoms.specs.Atoms.{atom_of}
 use Rattle.branch_points.specs.Chosen.{listed_atoms}
 use Rattle.branch_points.specs.Ends.{AreEnds}
 use Rattle.branch_points.proofs.ends.ends_of.Given as goal

@@ -1,7 +1,7 @@
 use Rattle.std.proofs.Common.{◌≡◌, sym, ap, ◌∙◌, subst}
 use Rattle.std.specs.Prelude.{IfOk, MatchOption}
-use Rattle.formula_meaning.specs.Formula.{none, also}
-use Rattle.formula_meaning.specs.Tree.{Trees}
+use Rattle.logic_meaning.specs.Formula.{none, also}
+use Rattle.logic_meaning.specs.Tree.{Trees}
 use Rattle.formula_store.specs.Nodes.{tree}
 use Rattle.branch_points.specs.Chosen.{conjuncts, HasNoEquation, IsRootAmong}
 use Rattle.branch_points.proofs.FirstEquations.{alone_in}

@@ -1,6 +1,6 @@
 use Rattle.std.proofs.Common.{get_or, arith}
 use Rattle.std.proofs.lemmas.Option.{MatchOption-at_some, MatchOption-at_none}
-use Rattle.formula_meaning.specs.Formula.{none, also}
+use Rattle.logic_meaning.specs.Formula.{none, also}
 use Rattle.formula_store.specs.Nodes.{tree}
 use Rattle.branch_points.specs.Chosen.{HasNoEquation, IsRootAmong}
 use Rattle.branch_points.proofs.RootsAmong.{passed_on, found_here, found_nowhere}

@@ -1,12 +1,12 @@
 use Rattle.std.proofs.Common.{◌≡◌, None, sym, ap, ◌∙◌, subst}
 use Rattle.std.proofs.Math.IntN.{pos}
-use Rattle.formula_meaning.specs.Formula.{none, also}
-use Rattle.formula_meaning.specs.Form.{coefficient}
-use Rattle.formula_meaning.specs.Tree.{Tree}
-use Rattle.linear_forms.specs.declared.form.VarId.{VarId}
+use Rattle.logic_meaning.specs.Formula.{none, also}
+use Rattle.logic_meaning.specs.Form.{coefficient}
+use Rattle.logic_meaning.specs.Tree.{Tree}
+use Rattle.logic_meaning.specs.declared.form.VarId.{VarId}
 use Rattle.formula_tree.specs.Shapes.{tree_over}
 use Rattle.formula_store.specs.Nodes.{tree}
-use Rattle.case_theory.specs.Direct.{first_equation}
+use Rattle.logic_meaning.specs.Direct.{first_equation}
 use Rattle.elimination_theory.proofs.SomeListed.{each_among}
 use Rattle.branch_points.proofs.FirstEquations.{other_equation}
 use Rattle.branch_points.proofs.RootsAmong.{root_alone}

@@ -1,11 +1,11 @@
 use Rattle.std.proofs.Common.{List, ◌++◌, take, map, flat_map, ap, sym, ◌∙◌, arith}
 use Rattle.std.proofs.lemmas.Grind.{flat_map-append}
 use Rattle.std.proofs.lemmas.List.{map-append}
-use Rattle.formula_meaning.specs.Atom as meant
-use Rattle.formula_meaning.specs.Answer.{Place}
-use Rattle.elimination_theory.specs.FieldsPoints.{atom_points}
-use Rattle.atom_normal.specs.declared.atoms.Atom.{Atom}
-use Rattle.atom_normal.specs.Atoms.{atom_of}
+use Rattle.logic_meaning.specs.Atom as meant
+use Rattle.logic_meaning.specs.Answer.{Place}
+use Rattle.logic_meaning.specs.FieldsPoints.{atom_points}
+use Rattle.normal_atoms.specs.declared.atoms.Atom.{Atom}
+use Rattle.normal_atoms.specs.Atoms.{atom_of}
 use Rattle.branch_points.specs.Chosen.{shape_atoms, listed_atoms}
 use Rattle.branch_points.proofs.ListedAtoms.{listed_more, listed_all}
 use Rattle.branch_points.proofs.fields.atoms_with.Goals as goal

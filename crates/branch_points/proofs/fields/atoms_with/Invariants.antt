@@ -1,7 +1,7 @@
 use Rattle.std.proofs.Common.{◌≡◌, take, map, flat_map}
-use Rattle.elimination_theory.specs.declared.side.Side.{Side}
-use Rattle.elimination_theory.specs.FieldsPoints.{atom_points}
-use Rattle.atom_normal.specs.Atoms.{atom_of}
+use Rattle.logic_meaning.specs.declared.side.Side.{Side}
+use Rattle.logic_meaning.specs.FieldsPoints.{atom_points}
+use Rattle.normal_atoms.specs.Atoms.{atom_of}
 use Rattle.branch_points.specs.Chosen.{listed_atoms}
 use Rattle.branch_points.proofs.fields.atoms_with.Given as goal
 

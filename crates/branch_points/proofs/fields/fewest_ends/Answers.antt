@@ -1,7 +1,7 @@
 use Rattle.std.proofs.Common.{◌≡◌, nat_eq, take, sym, subst, arith, ◌+◌}
 use Rattle.std.specs.HashMap.{get}
-use Rattle.formula_meaning.specs.Some.{Among, EachOf}
-use Rattle.linear_forms.specs.declared.form.VarId.{VarId}
+use Rattle.logic_meaning.specs.Some.{Among, EachOf}
+use Rattle.logic_meaning.specs.declared.form.VarId.{VarId}
 use Rattle.branch_points.specs.declared.fields.Fewest.{Fewest}
 use Rattle.branch_points.specs.Ends.{end_count}
 use Rattle.branch_points.proofs.Names.{at_place}

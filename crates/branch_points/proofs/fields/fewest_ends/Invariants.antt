@@ -1,8 +1,8 @@
 use Rattle.std.proofs.Common.{◌≡◌, ◌≤◌, take, nat_eq}
 use Rattle.std.specs.HashMap.{get}
-use Rattle.formula_meaning.specs.Some.{Among, EachOf}
-use Rattle.elimination_theory.specs.declared.side.Side.{Side}
-use Rattle.linear_forms.specs.declared.form.VarId.{VarId}
+use Rattle.logic_meaning.specs.Some.{Among, EachOf}
+use Rattle.logic_meaning.specs.declared.side.Side.{Side}
+use Rattle.logic_meaning.specs.declared.form.VarId.{VarId}
 use Rattle.branch_points.specs.Ends.{end_count}
 use Rattle.branch_points.proofs.fields.fewest_ends.Given as goal
 

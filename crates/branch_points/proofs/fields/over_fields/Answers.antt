@@ -1,11 +1,11 @@
 use Rattle.std.proofs.Common.{ℕ, ◌<◌, ◌≤◌, List, ◌∷◌, map, nat_eq, ap, ◌∙◌, arith}
 use Rattle.std.specs.HashMap.{get}
-use Rattle.formula_meaning.specs.Context as meaning
-use Rattle.formula_meaning.specs.Distinct.{distinct}
-use Rattle.formula_meaning.specs.Answer.{Place, same_place}
-use Rattle.elimination_theory.specs.FieldsPoints.{field_points_of, infinity_of}
-use Rattle.atom_normal.specs.declared.atoms.Atom.{Atom}
-use Rattle.atom_normal.specs.Atoms.{atom_of}
+use Rattle.logic_meaning.specs.Context as meaning
+use Rattle.logic_meaning.specs.Distinct.{distinct}
+use Rattle.logic_meaning.specs.Answer.{Place, same_place}
+use Rattle.logic_meaning.specs.FieldsPoints.{field_points_of, infinity_of}
+use Rattle.normal_atoms.specs.declared.atoms.Atom.{Atom}
+use Rattle.normal_atoms.specs.Atoms.{atom_of}
 use Rattle.branch_points.specs.Chosen.{listed_atoms}
 use Rattle.branch_points.specs.Counts.{count_of}
 use Rattle.branch_points.proofs.FewestPoints.{each_end}

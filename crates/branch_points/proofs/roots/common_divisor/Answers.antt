@@ -3,7 +3,7 @@ use Rattle.std.proofs.Math.IntN.{ℤ}
 use Rattle.exact_numbers.specs.Limit.{InLimit}
 use Rattle.exact_numbers.specs.Divides.{gcd_of, content_of}
 use Rattle.exact_numbers.proofs.Casts.{read_back}
-use Rattle.formula_meaning.specs.Form.{coefficients}
+use Rattle.logic_meaning.specs.Form.{coefficients}
 use Rattle.test_points.proofs.Lowest.{IsDivisor, divisor_is}
 use Rattle.branch_points.proofs.roots.common_divisor.Goals as goal
 

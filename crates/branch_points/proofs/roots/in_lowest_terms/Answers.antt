@@ -2,9 +2,9 @@ use Rattle.std.proofs.Common.{◌≡◌, ◌∙◌, ap, ap₂, unsigned_abs, int
 use Rattle.std.proofs.Math.IntN.{ℤ, pos}
 use Rattle.std.proofs.lemmas.Int.{ints}
 use Rattle.exact_numbers.proofs.Casts.{read_back}
-use Rattle.formula_meaning.specs.Answer.{Exact}
-use Rattle.linear_forms.specs.Reduction.{quotient}
-use Rattle.elimination_theory.specs.FieldsPoints.{divisor_of, form_over}
+use Rattle.logic_meaning.specs.Answer.{Exact}
+use Rattle.logic_meaning.specs.Reduction.{quotient}
+use Rattle.logic_meaning.specs.FieldsPoints.{divisor_of, form_over}
 use Rattle.elimination_theory.proofs.LowestTerms.{natural}
 use Rattle.test_points.proofs.Lowest.{quotient_is_over}
 use Rattle.branch_points.proofs.roots.in_lowest_terms.Goals as goal

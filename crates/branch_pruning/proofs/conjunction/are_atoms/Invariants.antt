@@ -1,5 +1,5 @@
 use Rattle.std.proofs.Common.{map, take}
-use Rattle.formula_meaning.specs.Formula.{And}
+use Rattle.logic_meaning.specs.Formula.{And}
 use Rattle.formula_tree.specs.Trees.{members}
 use Rattle.formula_store.specs.Nodes.{tree}
 use Rattle.branch_pruning.specs.Compared.{atoms_of, SaysAll}

@@ -1,5 +1,5 @@
 use Rattle.std.proofs.Common.{rules, ◌≡◌, ◌+◌, ◌∷◌, [], ◌++◌, take, sym, subst}
-use Rattle.atom_normal.specs.Atoms.{context_of}
+use Rattle.normal_atoms.specs.Atoms.{context_of}
 use Rattle.branch_pruning.specs.Compared.{AreConjunctionsOf}
 use Rattle.branch_pruning.proofs.Covered.{conjunctions_more}
 use Rattle.branch_pruning.proofs.covering.conjunctions_of.Goals as goal

@@ -1,5 +1,5 @@
 use Rattle.std.proofs.Common.{take}
-use Rattle.atom_normal.specs.Atoms.{context_of}
+use Rattle.normal_atoms.specs.Atoms.{context_of}
 use Rattle.branch_pruning.specs.Compared.{AreConjunctionsOf}
 use Rattle.branch_pruning.proofs.covering.conjunctions_of.Given as goal
 

@@ -3,7 +3,7 @@ use Rattle.std.specs.Prelude.{IsSomeAnd}
 use Rattle.std.proofs.lemmas.Grind.{common_steps}
 use lib.ListN.{set}
 use Rattle.atom_pruning.specs.declared.rows.AtomRows.{AtomRows}
-use Rattle.atom_normal.specs.Atoms.{context_of, atom_of}
+use Rattle.normal_atoms.specs.Atoms.{context_of, atom_of}
 use Rattle.formula_store.specs.Nodes.{tree}
 use Rattle.branch_pruning.specs.declared.conjunction.Conjunction.{Conjunction}
 use Rattle.branch_pruning.specs.Compared.{IsCovered}

@@ -1,5 +1,5 @@
 use Rattle.std.proofs.Common.{◌≡◌, ◌≤◌, length, map, vec_len}
-use Rattle.atom_normal.specs.Atoms.{context_of, atom_of}
+use Rattle.normal_atoms.specs.Atoms.{context_of, atom_of}
 use Rattle.formula_store.specs.Nodes.{tree}
 use Rattle.branch_pruning.proofs.Covered.{Cover}
 use Rattle.branch_pruning.proofs.covering.uncovered.Given as goal

@@ -1,7 +1,7 @@
 use Rattle.std.proofs.Common.{rules, ◌≡◌, List, map, subst, sym, ap, ◌∙◌}
-use Rattle.formula_meaning.specs.Formula.{And}
-use Rattle.formula_meaning.specs.Tree.{Tree, TrueAt}
-use Rattle.atom_normal.specs.Atoms.{context_of, atom_of}
+use Rattle.logic_meaning.specs.Formula.{And}
+use Rattle.logic_meaning.specs.Tree.{Tree, TrueAt}
+use Rattle.normal_atoms.specs.Atoms.{context_of, atom_of}
 use Rattle.formula_tree.specs.Shapes.{tree_over}
 use Rattle.formula_tree.specs.Trees.{members}
 use Rattle.formula_store.specs.declared.id.FormulaId.{FormulaId}

@@ -1,8 +1,8 @@
 use Rattle.std.proofs.Common.{map, ◌∙◌}
 use Rattle.formula_store.proofs.Makes.{keeps_then}
-use Rattle.atom_normal.specs.Atoms.{context_of, atom_of}
-use Rattle.atom_normal.proofs.Meaning.{all_within}
-use Rattle.simplified_formulas.proofs.Limited.{assumable}
+use Rattle.normal_atoms.specs.Atoms.{context_of, atom_of}
+use Rattle.normal_atoms.proofs.Meaning.{all_within}
+use Rattle.shape_theory.proofs.Limited.{assumable}
 use Rattle.theory_simplifier.proofs.Keeping.{if_ok_map}
 use Rattle.branch_pruning.proofs.Simplifying.{orderly_first, once, orderly_cut, twice}
 use Rattle.branch_pruning.proofs.pruning.pruned.Goals as goal

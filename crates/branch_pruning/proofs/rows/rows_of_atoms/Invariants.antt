@@ -1,5 +1,5 @@
 use Rattle.std.proofs.Common.{map, take}
-use Rattle.atom_normal.specs.Atoms.{context_of, atom_of}
+use Rattle.normal_atoms.specs.Atoms.{context_of, atom_of}
 use Rattle.atom_pruning.specs.Rows.{AreRows}
 use Rattle.branch_pruning.proofs.rows.rows_of_atoms.Given as goal
 

@@ -1,5 +1,5 @@
 use Rattle.std.proofs.Common.{rules, ◌≡◌, ◌+◌, ◌∷◌, [], ◌++◌, map, take, sym, subst}
-use Rattle.atom_normal.specs.Atoms.{context_of}
+use Rattle.normal_atoms.specs.Atoms.{context_of}
 use Rattle.formula_store.specs.Nodes.{tree}
 use Rattle.atom_pruning.specs.Rows.{AreRows}
 use Rattle.branch_pruning.specs.Cuts.{said}

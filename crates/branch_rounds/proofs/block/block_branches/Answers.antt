@@ -1,10 +1,10 @@
 use Rattle.std.proofs.Common.{rules, ◌≡◌, ℕ, ◌+◌, List, [], length, drop, sym, ap, subst, refl, arith, length-drop, ⊎_elim}
-use Rattle.formula_meaning.specs.Some.{EachOf, SomeOf}
+use Rattle.logic_meaning.specs.Some.{EachOf, SomeOf}
 use Rattle.formula_store.specs.Nodes.{tree}
 use Rattle.formula_store.proofs.Makes.{keeps_then}
 use Rattle.branch_rounds.specs.Branches.{Seen, IsOpen, ArePendingOf, AreBranchesOf, numbers}
 use Rattle.branch_rounds.specs.Rounds.{PassesAt, IsLeftAlone}
-use Rattle.atom_normal.specs.Atoms.{context_of}
+use Rattle.normal_atoms.specs.Atoms.{context_of}
 use Rattle.branch_rounds.proofs.Alone.{direct_over, alone_over}
 use Rattle.branch_rounds.proofs.Never.{no_branches, none_alone}
 use Rattle.branch_rounds.proofs.Thinned.{branches_thinned, alone_thinned, each_id}

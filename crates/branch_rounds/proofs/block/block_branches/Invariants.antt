@@ -1,8 +1,8 @@
 use Rattle.std.proofs.Common.{◌≡◌, ◌≤◌, [], ◌∷◌, length, drop}
-use Rattle.formula_meaning.specs.Answer.{Place}
-use Rattle.formula_meaning.specs.Some.{EachOf}
-use Rattle.atom_normal.specs.Atoms.{context_of}
-use Rattle.linear_forms.specs.declared.form.VarId.{VarId}
+use Rattle.logic_meaning.specs.Answer.{Place}
+use Rattle.logic_meaning.specs.Some.{EachOf}
+use Rattle.normal_atoms.specs.Atoms.{context_of}
+use Rattle.logic_meaning.specs.declared.form.VarId.{VarId}
 use Rattle.formula_tree.specs.Makers.{Keeps}
 use Rattle.formula_store.specs.Nodes.{tree, IsId}
 use Rattle.branch_rounds.specs.Branches.{Seen, IsOpen, ArePendingOf, numbers}

@@ -1,6 +1,6 @@
 use Rattle.std.proofs.Common.{rules, ◌≡◌, ◌++◌, length, List, ap, sym, ◌∙◌}
 use Rattle.std.proofs.lemmas.List.{append-nil}
-use Rattle.virtual_subst.proofs.FromNnfTrees.{empty}
+use Rattle.nnf_trees.proofs.Pieces.{empty}
 use Rattle.branch_pruning.specs.FromAtomPruning.{marked as marked_of}
 use Rattle.branch_rounds.specs.Branches.{Seen}
 use Rattle.branch_rounds.proofs.Thinned.{marked_none}

@@ -2,19 +2,19 @@ use Rattle.std.proofs.Common.{Option, sym, subst}
 use Rattle.std.specs.declared.vec.Vec.{Vec}
 use Rattle.std.specs.declared.alloc.Global.{Global}
 use Rattle.exact_numbers.specs.declared.fraction.Fraction.{Fraction}
-use Rattle.formula_meaning.specs.Every.{Every}
-use Rattle.atom_normal.specs.Atoms.{context_of}
-use Rattle.atom_normal.specs.NormalForm.{IsNormal}
-use Rattle.atom_normal.proofs.Stepped.{ok_map}
-use Rattle.elimination_reference.proofs.Sound.{normal_normal_tree}
-use Rattle.linear_forms.specs.declared.form.VarId.{VarId}
+use Rattle.logic_meaning.specs.Every.{Every}
+use Rattle.normal_atoms.specs.Atoms.{context_of}
+use Rattle.logic_meaning.specs.NormalForm.{IsNormal}
+use Rattle.normal_atoms.proofs.Stepped.{ok_map}
+use Rattle.elimination_theory.proofs.Sound.{normal_normal_tree}
+use Rattle.logic_meaning.specs.declared.form.VarId.{VarId}
 use Rattle.linear_forms.specs.Values.{point_of}
 use Rattle.sample_reference.specs.Seen.{sample_of}
 use Rattle.formula_tree.specs.Trees.{tree_of}
 use Rattle.formula_store.specs.Nodes.{tree}
-use Rattle.block_scheduler.proofs.FromPlainEngine.{stops_along}
-use Rattle.block_scheduler.proofs.Stops.{err_map}
-use Rattle.engine_answers.proofs.Sampled.{true_along, sample_along, paid_stops}
+use Rattle.reference_engine.proofs.Seen.{stops_along}
+use Rattle.engine_answers.proofs.Stops.{err_map}
+use Rattle.engine_answers.proofs.EngineAnswersSampled.{true_along, sample_along, paid_stops}
 use Rattle.engine_answers.proofs.reference_samples.plain_sample.Goals as goal
 
 pub sample_at-requires-clause-normal : goal.sample_at-requires-clause-normal

@@ -1,8 +1,8 @@
 use Rattle.std.proofs.Common.{rules, ◌≡◌, ◌∷◌, ◌++◌, [], sym, subst}
-use Rattle.formula_meaning.specs.Some.{Among, EachOf}
-use Rattle.linear_forms.specs.declared.form.VarId.{VarId}
+use Rattle.logic_meaning.specs.Some.{Among, EachOf}
+use Rattle.logic_meaning.specs.declared.form.VarId.{VarId}
 use Rattle.sample_reference.specs.Seen.{values_of}
-use Rattle.engine_answers.proofs.Sampled.{name_there, named_more, each_more}
+use Rattle.engine_answers.proofs.EngineAnswersSampled.{name_there, named_more, each_more}
 use Rattle.engine_answers.proofs.samples.in_order.Goals as goal
 
 pub unreachable-requires : goal.unreachable-requires

@@ -1,8 +1,8 @@
 use Rattle.std.proofs.Common.{◌≡◌, ◌++◌, map, drop}
-use Rattle.formula_meaning.specs.Some.{Among, EachOf}
+use Rattle.logic_meaning.specs.Some.{Among, EachOf}
 use Rattle.linear_forms.specs.Values.{number_of}
 use Rattle.sample_reference.specs.Seen.{values_of}
-use Rattle.sample_reference.specs.Values.{value_names}
+use Rattle.logic_meaning.specs.Values.{value_names}
 use Rattle.engine_answers.proofs.samples.in_order.Given as goal
 
 -- the names so far have their values, in their order

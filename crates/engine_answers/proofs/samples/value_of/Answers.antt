@@ -1,5 +1,5 @@
 use Rattle.std.proofs.Common.{◌≡◌, arith}
-use Rattle.engine_answers.proofs.Sampled.{value_there}
+use Rattle.engine_answers.proofs.EngineAnswersSampled.{value_there}
 use Rattle.engine_answers.proofs.samples.value_of.Goals as goal
 
 pub returns-then-value-name : goal.returns-then-value-name

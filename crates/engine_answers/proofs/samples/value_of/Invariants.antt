@@ -1,7 +1,7 @@
 use Rattle.std.proofs.Common.{drop}
-use Rattle.formula_meaning.specs.Some.{Among}
+use Rattle.logic_meaning.specs.Some.{Among}
 use Rattle.sample_reference.specs.Seen.{values_of}
-use Rattle.sample_reference.specs.Values.{value_names}
+use Rattle.logic_meaning.specs.Values.{value_names}
 use Rattle.engine_answers.proofs.samples.value_of.Given as goal
 
 -- none of the values so far is one of the name

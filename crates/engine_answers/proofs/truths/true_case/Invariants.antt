@@ -1,9 +1,9 @@
 use Rattle.std.proofs.Common.{◌≡◌, false, take}
-use Rattle.formula_meaning.specs.Some.{EachOf}
+use Rattle.logic_meaning.specs.Some.{EachOf}
 use Rattle.linear_forms.specs.Values.{point_of}
 use Rattle.formula_store.specs.Nodes.{tree}
 use Rattle.formula_store.specs.Truths.{Tells}
-use Rattle.block_scheduler.specs.FromCaseTrees.{Case}
+use Rattle.engine_answers.specs.declared.case_tree.Case.{Case}
 use Rattle.engine_answers.proofs.truths.true_case.Given as goal
 
 -- no guard so far is true, where no number has passed the limit

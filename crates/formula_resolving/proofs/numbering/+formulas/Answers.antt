@@ -1,7 +1,7 @@
 use Rattle.std.proofs.Common.{ℕ, List, [], ◌∷◌, ◌||◌, subst, sym, arith, rules}
-use Rattle.qe_syntax.specs.CodeTrees.{formula_tree}
-use Rattle.qe_syntax.proofs.Quantified.{unquantified}
-use Rattle.resolved_formulas.specs.Resolving.{formula_variables}
+use Rattle.written_syntax.specs.CodeTrees.{formula_tree}
+use Rattle.written_syntax.proofs.Quantified.{unquantified}
+use Rattle.language_meaning.specs.Resolving.{formula_variables}
 use Rattle.formula_resolving.specs.Numbering.{IsNumbered}
 use Rattle.formula_resolving.proofs.Measures.{formula_below}
 use Rattle.formula_resolving.proofs.Numbered.{Remains, numbered_then, remains_less, grows_then}

@@ -1,8 +1,8 @@
 use Rattle.std.proofs.Common.{◌+◌, ◌*◌, ◌≤◌, drop, map}
-use Rattle.formula_meaning.specs.Sizes.{nodes, all_nodes}
-use Rattle.qe_syntax.specs.Trees.{formulas_of}
-use Rattle.qe_syntax.specs.CodeTrees.{formula_tree}
-use Rattle.resolved_formulas.specs.Resolving.{formula_variables, all_variables}
+use Rattle.logic_meaning.specs.Sizes.{nodes, all_nodes}
+use Rattle.language_meaning.specs.Trees.{formulas_of}
+use Rattle.written_syntax.specs.CodeTrees.{formula_tree}
+use Rattle.language_meaning.specs.Resolving.{formula_variables, all_variables}
 use Rattle.formula_resolving.specs.Numbering.{Grows}
 use Rattle.formula_resolving.proofs.Numbered.{Remains}
 use Rattle.formula_resolving.proofs.numbering.+formulas.Given as goal

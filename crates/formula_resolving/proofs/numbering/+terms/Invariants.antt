@@ -1,7 +1,7 @@
 use Rattle.std.proofs.Common.{◌+◌, ◌*◌, drop, map}
-use Rattle.qe_syntax.specs.Trees.{terms_of}
-use Rattle.qe_syntax.specs.CodeTrees.{term_tree}
-use Rattle.resolved_formulas.specs.Resolving.{variables_in}
+use Rattle.language_meaning.specs.Trees.{terms_of}
+use Rattle.written_syntax.specs.CodeTrees.{term_tree}
+use Rattle.language_meaning.specs.Resolving.{variables_in}
 use Rattle.formula_resolving.specs.Numbering.{Grows}
 use Rattle.formula_resolving.proofs.Measures.{term_nodes, terms_nodes}
 use Rattle.formula_resolving.proofs.Numbered.{Remains}

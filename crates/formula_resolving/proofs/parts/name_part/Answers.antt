@@ -1,6 +1,6 @@
 use Rattle.std.proofs.Common.{sym, ap, ◌∙◌}
 use Rattle.std.specs.Prelude.{option_map}
-use Rattle.resolved_formulas.specs.Answers.{with_inner}
+use Rattle.language_meaning.specs.Answers.{with_inner}
 use Rattle.formula_resolving.specs.BoundIds.{trees_bound}
 use Rattle.formula_resolving.proofs.AtomLaws.{bound_id, name_away}
 use Rattle.formula_resolving.proofs.Answered.{beside}

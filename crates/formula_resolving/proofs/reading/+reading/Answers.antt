@@ -1,16 +1,16 @@
 use Rattle.std.proofs.Common.{◌≡◌, ◌+◌, ℕ, List, map, take, arith, rules, subst, sym, ap, ◌∙◌, refl, Some}
 use Rattle.std.proofs.lemmas.List.{take_all}
-use Rattle.formula_meaning.specs.Fold.{joined}
-use Rattle.formula_meaning.specs.Sizes.{nodes}
-use Rattle.formula_meaning.specs.Shape.{quantified}
-use Rattle.atom_normal.specs.Atoms.{context_of}
-use Rattle.qe_syntax.specs.Trees.{FormulaTree}
-use Rattle.qe_syntax.specs.Holes.{command_count}
-use Rattle.qe_syntax.specs.CodeTrees.{formula_tree, named_tree}
-use Rattle.qe_syntax.specs.Proper.{IsProperFormula}
-use Rattle.qe_syntax.specs.Valued.{IsUnquantified}
-use Rattle.qe_syntax.specs.declared.tree.Formula.{Formula}
-use Rattle.qe_syntax.proofs.Quantified.{matrix_unquantified}
+use Rattle.logic_meaning.specs.Fold.{joined}
+use Rattle.logic_meaning.specs.Sizes.{nodes}
+use Rattle.logic_meaning.specs.Shape.{quantified}
+use Rattle.normal_atoms.specs.Atoms.{context_of}
+use Rattle.language_meaning.specs.Trees.{FormulaTree}
+use Rattle.language_meaning.specs.Holes.{command_count}
+use Rattle.written_syntax.specs.CodeTrees.{formula_tree, named_tree}
+use Rattle.written_syntax.specs.Proper.{IsProperFormula}
+use Rattle.written_syntax.specs.Valued.{IsUnquantified}
+use Rattle.written_syntax.specs.declared.tree.Formula.{Formula}
+use Rattle.written_syntax.proofs.Quantified.{matrix_unquantified}
 use Rattle.formula_resolving.specs.BoundIds.{answered_trees}
 use Rattle.formula_resolving.specs.declared.parts.Opening.{Opening}
 use Rattle.formula_resolving.specs.MetCauses.{no_causes}

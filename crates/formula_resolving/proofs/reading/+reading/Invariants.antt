@@ -1,8 +1,8 @@
 use Rattle.std.proofs.Common.{◌≡◌, ◌+◌, ◌*◌, map, take, length}
-use Rattle.formula_meaning.specs.Sizes.{nodes, all_nodes}
-use Rattle.qe_syntax.specs.Trees.{FormulaTree, formulas_of}
-use Rattle.qe_syntax.specs.CodeTrees.{formula_tree, named_tree}
-use Rattle.atom_normal.specs.Atoms.{context_of}
+use Rattle.logic_meaning.specs.Sizes.{nodes, all_nodes}
+use Rattle.language_meaning.specs.Trees.{FormulaTree, formulas_of}
+use Rattle.written_syntax.specs.CodeTrees.{formula_tree, named_tree}
+use Rattle.normal_atoms.specs.Atoms.{context_of}
 use Rattle.formula_tree.specs.Makers.{Keeps}
 use Rattle.formula_resolving.specs.BoundIds.{answered_trees}
 use Rattle.formula_resolving.specs.Connectives.{Opens}

@@ -1,5 +1,5 @@
 use Rattle.formula_resolving.specs.BoundIds.{answered_trees}
-use Rattle.qe_syntax.specs.Holes.{inner_name}
+use Rattle.language_meaning.specs.Holes.{inner_name}
 use Rattle.formula_resolving.proofs.Answered.{answer_there, id_at}
 use Rattle.formula_resolving.proofs.reading.answer_part.Goals as goal
 

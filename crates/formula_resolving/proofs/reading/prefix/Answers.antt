@@ -1,6 +1,6 @@
 use Rattle.std.proofs.Common.{List, subst, sym, ◌∙◌}
-use Rattle.qe_syntax.specs.CodeTrees.{formula_tree, named_tree}
-use Rattle.qe_syntax.proofs.Quantified.{unquantified, no_prefix}
+use Rattle.written_syntax.specs.CodeTrees.{formula_tree, named_tree}
+use Rattle.written_syntax.proofs.Quantified.{unquantified, no_prefix}
 use Rattle.formula_resolving.specs.declared.parts.Opening.{Opening}
 use Rattle.formula_resolving.specs.Connectives.{Opens}
 use Rattle.formula_resolving.proofs.Openings.{opens_ex, opens_all, under_ex, under_all}

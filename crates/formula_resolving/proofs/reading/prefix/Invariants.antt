@@ -1,6 +1,6 @@
 use Rattle.std.proofs.Common.{◌≡◌, ℕ}
-use Rattle.qe_syntax.specs.CodeTrees.{formula_tree, named_tree, inner_of}
-use Rattle.qe_syntax.specs.Valued.{matrix_of}
+use Rattle.written_syntax.specs.CodeTrees.{formula_tree, named_tree, inner_of}
+use Rattle.written_syntax.specs.Valued.{matrix_of}
 use Rattle.formula_resolving.specs.Connectives.{Opens}
 use Rattle.formula_resolving.proofs.reading.prefix.Given as goal
 

@@ -1,5 +1,5 @@
 use Rattle.std.proofs.Common.{ap, refl}
-use Rattle.atom_normal.specs.Atoms.{context_of}
+use Rattle.normal_atoms.specs.Atoms.{context_of}
 use Rattle.formula_resolving.specs.MetCauses.{atom_causes}
 use Rattle.formula_resolving.proofs.AtomLaws.{congruence_part}
 use Rattle.formula_resolving.proofs.PartLaws.{finished_as, finished_id, ok_map}

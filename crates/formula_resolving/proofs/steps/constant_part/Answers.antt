@@ -1,5 +1,5 @@
 use Rattle.std.proofs.Common.{subst, sym, refl}
-use Rattle.formula_meaning.specs.Fold.{neutral}
+use Rattle.logic_meaning.specs.Fold.{neutral}
 use Rattle.formula_resolving.specs.MetCauses.{no_causes}
 use Rattle.formula_resolving.specs.Parts.{IsPart}
 use Rattle.formula_resolving.proofs.FirstCause.{none_met}

@@ -1,5 +1,5 @@
 use Rattle.std.proofs.Common.{◌≡◌, false, take, get_or}
-use Rattle.formula_meaning.specs.Some.{SomeOf}
+use Rattle.logic_meaning.specs.Some.{SomeOf}
 use Rattle.formula_store.specs.declared.id.FormulaId.{FormulaId}
 use Rattle.formula_store.proofs.truth.some_is.Given as goal
 

@@ -2,7 +2,7 @@ use Rattle.std.proofs.Common.{◌≡◌, true, ℕ, List, [], ◌∷◌, ◌++�
 use Rattle.std.proofs.lemmas.List.{take_more, take_all}
 use Rattle.std.specs.Ordering.{nat_cmp}
 use Rattle.std.specs.BTreeSet.{contains}
-use Rattle.qe_syntax.proofs.NameSearch.{was_known}
+use Rattle.written_syntax.proofs.NameSearch.{was_known}
 use Rattle.free_names.proofs.Lists.{Puts, seen_more, seen_known, added_new, added_known}
 use Rattle.free_names.proofs.missing.add.Goals as goal
 use Rattle.free_names.proofs.missing.add.Goals.{then-branch+in_ok-push, else-branch}

@@ -1,9 +1,9 @@
 use Rattle.std.proofs.Common.{sym, subst}
 use Rattle.std.specs.Ordering.{nat_cmp}
 use Rattle.std.specs.BTreeSet.{contains}
-use Rattle.formula_meaning.specs.Atom.{Mentions}
-use Rattle.atom_normal.specs.declared.atoms.Atom.{Atom}
-use Rattle.atom_normal.specs.Atoms.{atom_of}
+use Rattle.logic_meaning.specs.Atom.{Mentions}
+use Rattle.normal_atoms.specs.declared.atoms.Atom.{Atom}
+use Rattle.normal_atoms.specs.Atoms.{atom_of}
 use Rattle.formula_resolving.proofs.PartLaws.{ok_map}
 use Rattle.free_names.specs.Missing.{AreMissing}
 use Rattle.free_names.proofs.missing.atom_missing.Goals as goal

@@ -2,7 +2,7 @@ use Rattle.std.proofs.Common.{◌≡◌, List, [], ◌∷◌, ◌++◌, take, ar
 use Rattle.std.proofs.lemmas.List.{take_all}
 use Rattle.std.specs.Ordering.{nat_cmp}
 use Rattle.std.specs.BTreeSet.{contains}
-use Rattle.formula_meaning.specs.Form.{Term}
+use Rattle.logic_meaning.specs.Form.{Term}
 use Rattle.linear_forms.specs.Linear.{term_of}
 use Rattle.free_names.proofs.Nodes.{term_missing, term_there, next_term, no_term, form_names}
 use Rattle.free_names.proofs.missing.form_missing.Goals as goal

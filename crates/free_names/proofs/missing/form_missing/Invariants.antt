@@ -1,8 +1,8 @@
 use Rattle.std.proofs.Common.{◌≡◌, take}
 use Rattle.std.specs.Ordering.{nat_cmp}
 use Rattle.std.specs.BTreeSet.{contains}
-use Rattle.formula_meaning.specs.Some.{SomeOf}
-use Rattle.formula_meaning.specs.Form.{Term}
+use Rattle.logic_meaning.specs.Some.{SomeOf}
+use Rattle.logic_meaning.specs.Form.{Term}
 use Rattle.free_names.specs.Missing.{AreMissing}
 use Rattle.free_names.proofs.missing.form_missing.Given as goal
 

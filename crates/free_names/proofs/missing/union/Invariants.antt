@@ -1,7 +1,7 @@
 use Rattle.std.proofs.Common.{ℕ, IsTrue, ◌↔◌, take}
 use Rattle.std.specs.Ordering.{nat_cmp}
 use Rattle.std.specs.BTreeSet.{contains}
-use Rattle.formula_meaning.specs.Some.{SomeOf}
+use Rattle.logic_meaning.specs.Some.{SomeOf}
 use Rattle.free_names.specs.Scopes.{IsIn}
 use Rattle.free_names.specs.Missing.{numbers_at}
 use Rattle.free_names.proofs.missing.union.Given as goal

@@ -1,9 +1,9 @@
 use Rattle.std.proofs.Common.{◌≡◌, ◌+◌, arith, ap, sym, ◌∙◌}
-use Rattle.formula_meaning.specs.Replaced.{replaced, all_replaced}
-use Rattle.formula_meaning.specs.Sizes.{nodes}
-use Rattle.qe_syntax.specs.CodeTrees.{formula_tree}
-use Rattle.resolved_formulas.specs.Causes.{atom_in_place}
-use Rattle.formula_tree.specs.Quantified.{has_quantifier, some_quantifier}
+use Rattle.logic_meaning.specs.Replaced.{replaced, all_replaced}
+use Rattle.logic_meaning.specs.Sizes.{nodes}
+use Rattle.written_syntax.specs.CodeTrees.{formula_tree}
+use Rattle.language_meaning.specs.Causes.{atom_in_place}
+use Rattle.logic_meaning.specs.Quantified.{has_quantifier, some_quantifier}
 use Rattle.formula_store.specs.Nodes.{tree}
 use Rattle.formula_resolving.specs.BoundIds.{answered_trees}
 use Rattle.formula_resolving.proofs.Measures.{formula_below}

@@ -1,10 +1,10 @@
 use Rattle.std.proofs.Common.{◌≡◌, ◌+◌, ◌*◌, drop, map}
-use Rattle.formula_meaning.specs.Sizes.{nodes, all_nodes}
-use Rattle.formula_meaning.specs.Replaced.{all_replaced}
-use Rattle.qe_syntax.specs.Trees.{formulas_of}
-use Rattle.qe_syntax.specs.CodeTrees.{formula_tree}
-use Rattle.resolved_formulas.specs.Causes.{atom_in_place}
-use Rattle.formula_tree.specs.Quantified.{some_quantifier}
+use Rattle.logic_meaning.specs.Sizes.{nodes, all_nodes}
+use Rattle.logic_meaning.specs.Replaced.{all_replaced}
+use Rattle.language_meaning.specs.Trees.{formulas_of}
+use Rattle.written_syntax.specs.CodeTrees.{formula_tree}
+use Rattle.language_meaning.specs.Causes.{atom_in_place}
+use Rattle.logic_meaning.specs.Quantified.{some_quantifier}
 use Rattle.formula_store.specs.Nodes.{tree}
 use Rattle.formula_resolving.specs.BoundIds.{answered_trees}
 use Rattle.free_names.proofs.Named.{members_named, members_count}

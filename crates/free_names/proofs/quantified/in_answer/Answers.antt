@@ -1,4 +1,4 @@
-use Rattle.qe_syntax.specs.Holes.{inner_name}
+use Rattle.language_meaning.specs.Holes.{inner_name}
 use Rattle.formula_store.specs.Nodes.{tree, IsId}
 use Rattle.formula_resolving.specs.BoundIds.{answered_trees}
 use Rattle.formula_resolving.proofs.Answered.{answer_there, id_at}

@@ -1,15 +1,15 @@
 use Rattle.std.proofs.Common.{◌≡◌, ◌+◌, ℕ, List, map, drop, Bool, true, inl, arith, ap, subst, sym, ◌∙◌}
 use Rattle.std.specs.Ordering.{nat_cmp}
 use Rattle.std.specs.BTreeSet.{contains}
-use Rattle.formula_meaning.specs.Sizes.{nodes}
-use Rattle.qe_syntax.specs.declared.tree.Formula as written
-use Rattle.qe_syntax.specs.Trees.{FormulaTree, FormulaTrees}
-use Rattle.qe_syntax.specs.Holes.{command_count}
-use Rattle.qe_syntax.specs.CodeTrees.{formula_tree, named_tree}
-use Rattle.qe_syntax.specs.Valued.{IsUnquantified}
-use Rattle.qe_syntax.proofs.Quantified.{matrix_unquantified}
-use Rattle.resolved_formulas.specs.Resolving.{MentionsNumber}
-use Rattle.formula_tree.specs.Names.{place}
+use Rattle.logic_meaning.specs.Sizes.{nodes}
+use Rattle.written_syntax.specs.declared.tree.Formula as written
+use Rattle.language_meaning.specs.Trees.{FormulaTree, FormulaTrees}
+use Rattle.language_meaning.specs.Holes.{command_count}
+use Rattle.written_syntax.specs.CodeTrees.{formula_tree, named_tree}
+use Rattle.written_syntax.specs.Valued.{IsUnquantified}
+use Rattle.written_syntax.proofs.Quantified.{matrix_unquantified}
+use Rattle.language_meaning.specs.Resolving.{MentionsNumber}
+use Rattle.logic_meaning.specs.Names.{place}
 use Rattle.formula_store.specs.Nodes.{tree}
 use Rattle.formula_resolving.specs.BoundIds.{answered_trees}
 use Rattle.formula_resolving.proofs.HoleNames.{prefix_named}

@@ -1,9 +1,9 @@
 use Rattle.std.proofs.Common.{◌≡◌, ◌+◌, ◌*◌, drop, map}
 use Rattle.std.specs.Ordering.{nat_cmp}
 use Rattle.std.specs.BTreeSet.{contains, IsSameSet}
-use Rattle.formula_meaning.specs.Sizes.{nodes, all_nodes}
-use Rattle.qe_syntax.specs.Trees.{formulas_of}
-use Rattle.qe_syntax.specs.CodeTrees.{formula_tree}
+use Rattle.logic_meaning.specs.Sizes.{nodes, all_nodes}
+use Rattle.language_meaning.specs.Trees.{formulas_of}
+use Rattle.written_syntax.specs.CodeTrees.{formula_tree}
 use Rattle.free_names.specs.Missing.{IsSound}
 use Rattle.free_names.specs.Places.{AreFreeHere, in_scope}
 use Rattle.free_names.proofs.Named.{members_named, members_count}

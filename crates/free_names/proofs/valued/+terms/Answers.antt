@@ -1,8 +1,8 @@
 use Rattle.std.proofs.Common.{sym, ap, ◌∙◌, subst, arith}
-use Rattle.qe_syntax.specs.Trees.{TermTree}
-use Rattle.qe_syntax.specs.CodeTrees.{term_tree}
-use Rattle.qe_syntax.specs.Value.{HasName}
-use Rattle.qe_syntax.proofs.TreeEquations.{tree-Name}
+use Rattle.language_meaning.specs.Trees.{TermTree}
+use Rattle.written_syntax.specs.CodeTrees.{term_tree}
+use Rattle.language_meaning.specs.Value.{HasName}
+use Rattle.written_syntax.proofs.TreeEquations.{tree-Name}
 use Rattle.formula_resolving.proofs.Measures.{term_below}
 use Rattle.free_names.specs.Places.{name_in_scope}
 use Rattle.free_names.specs.Scopes.{AreAmong}

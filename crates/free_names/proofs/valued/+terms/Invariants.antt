@@ -1,7 +1,7 @@
 use Rattle.std.proofs.Common.{◌+◌, ◌*◌, drop, map}
-use Rattle.qe_syntax.specs.Trees.{terms_of}
-use Rattle.qe_syntax.specs.CodeTrees.{term_tree}
-use Rattle.qe_syntax.specs.Value.{HaveName}
+use Rattle.language_meaning.specs.Trees.{terms_of}
+use Rattle.written_syntax.specs.CodeTrees.{term_tree}
+use Rattle.language_meaning.specs.Value.{HaveName}
 use Rattle.formula_resolving.proofs.Measures.{term_nodes, terms_nodes}
 use Rattle.free_names.specs.Places.{name_in_scope}
 use Rattle.free_names.proofs.Search.{SearchedTo}

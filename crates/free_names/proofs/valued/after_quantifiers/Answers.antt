@@ -1,4 +1,4 @@
-use Rattle.qe_syntax.proofs.Quantified.{unquantified}
+use Rattle.written_syntax.proofs.Quantified.{unquantified}
 use Rattle.free_names.proofs.Named.{after_none, after_one, after_all}
 use Rattle.free_names.proofs.valued.after_quantifiers.Goals as goal
 

@@ -1,5 +1,5 @@
-use Rattle.qe_syntax.specs.Holes.{inner_name}
-use Rattle.formula_tree.specs.Names.{place}
+use Rattle.language_meaning.specs.Holes.{inner_name}
+use Rattle.logic_meaning.specs.Names.{place}
 use Rattle.formula_store.specs.Nodes.{tree, IsId}
 use Rattle.formula_resolving.specs.BoundIds.{answered_trees}
 use Rattle.formula_resolving.proofs.Answered.{answer_there, id_at}

@@ -1,6 +1,6 @@
 use Rattle.std.proofs.Common.{map, sym, ap, ◌∙◌}
 use Rattle.std.specs.Prelude.{option_map}
-use Rattle.formula_tree.specs.Names.{place}
+use Rattle.logic_meaning.specs.Names.{place}
 use Rattle.formula_store.specs.Nodes.{tree, IsId}
 use Rattle.formula_resolving.specs.BoundIds.{answered_trees}
 use Rattle.formula_resolving.proofs.AtomLaws.{bound_id}

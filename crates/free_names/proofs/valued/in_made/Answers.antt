@@ -1,7 +1,7 @@
 use Rattle.std.proofs.Common.{List, ℕ, sym, ◌∙◌, subst}
 use Rattle.std.specs.Ordering.{nat_cmp}
 use Rattle.std.specs.BTreeSet.{contains}
-use Rattle.formula_meaning.specs.Tree.{IsFree}
+use Rattle.logic_meaning.specs.Tree.{IsFree}
 use Rattle.formula_store.specs.Nodes.{tree}
 use Rattle.free_names.specs.Missing.{AreMissing, numbers_at}
 use Rattle.free_names.specs.Scopes.{AreAmong, IsIn}

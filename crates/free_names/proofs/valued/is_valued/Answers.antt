@@ -3,10 +3,10 @@ use Rattle.std.specs.List.{list_any}
 use Rattle.std.specs.Ordering.{nat_cmp}
 use Rattle.std.specs.BTreeMap.{is_at}
 use Rattle.std.specs.BTreeSet.{contains}
-use Rattle.qe_syntax.specs.CodeTrees.{named_tree}
-use Rattle.formula_tree.specs.Names.{place}
+use Rattle.written_syntax.specs.CodeTrees.{named_tree}
+use Rattle.logic_meaning.specs.Names.{place}
 use Rattle.formula_resolving.proofs.PartLaws.{ok_map}
-use Rattle.free_names.specs.Entries.{HasEntryAt}
+use Rattle.language_meaning.specs.Entries.{HasEntryAt}
 use Rattle.free_names.specs.Places.{IsFreeHere}
 use Rattle.free_names.proofs.Parts.{told}
 use Rattle.free_names.proofs.valued.is_valued.Goals as goal

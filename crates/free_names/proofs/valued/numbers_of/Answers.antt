@@ -1,9 +1,9 @@
 use Rattle.std.proofs.Common.{ℕ, subst}
 use Rattle.std.specs.Ordering.{nat_cmp}
 use Rattle.std.specs.BTreeSet.{contains}
-use Rattle.qe_syntax.specs.declared.entries.PointEntry.{PointEntry}
-use Rattle.qe_syntax.proofs.EntryLists.{more_entries}
-use Rattle.formula_tree.specs.Names.{place}
+use Rattle.language_meaning.specs.declared.entries.PointEntry.{PointEntry}
+use Rattle.written_syntax.proofs.EntryLists.{more_entries}
+use Rattle.logic_meaning.specs.Names.{place}
 use Rattle.free_names.proofs.Lists.{Puts, seen_more}
 use Rattle.free_names.proofs.valued.numbers_of.Goals as goal
 

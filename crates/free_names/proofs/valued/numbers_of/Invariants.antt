@@ -1,8 +1,8 @@
 use Rattle.std.proofs.Common.{IsTrue, ◌↔◌, ℕ, take}
 use Rattle.std.specs.Ordering.{nat_cmp}
 use Rattle.std.specs.BTreeSet.{contains}
-use Rattle.formula_tree.specs.Names.{place}
-use Rattle.free_names.specs.Entries.{HasEntryAt}
+use Rattle.logic_meaning.specs.Names.{place}
+use Rattle.language_meaning.specs.Entries.{HasEntryAt}
 use Rattle.free_names.proofs.valued.numbers_of.Given as goal
 
 -- the set has the numbers so far

@@ -1,11 +1,11 @@
 use Rattle.std.proofs.Common.{◌≡◌, true, false, List, ℕ, [], ◌∷◌, ◌++◌, map, subst, ap}
 use Rattle.std.specs.Ordering.{nat_cmp}
 use Rattle.std.specs.BTreeSet.{contains}
-use Rattle.qe_syntax.specs.CodeTrees.{formula_tree}
-use Rattle.qe_syntax.specs.Valued.{prefix_of}
-use Rattle.qe_syntax.proofs.NameSearch.{was_absent, was_known}
-use Rattle.qe_syntax.proofs.Quantified.{unquantified, no_prefix, after_name}
-use Rattle.formula_tree.specs.Names.{place}
+use Rattle.written_syntax.specs.CodeTrees.{formula_tree}
+use Rattle.written_syntax.specs.Valued.{prefix_of}
+use Rattle.written_syntax.proofs.NameSearch.{was_absent, was_known}
+use Rattle.written_syntax.proofs.Quantified.{unquantified, no_prefix, after_name}
+use Rattle.logic_meaning.specs.Names.{place}
 use Rattle.free_names.proofs.Lists.{Puts}
 use Rattle.free_names.proofs.Scopes.{IsOpening, opening_known, opening_new, opening_end}
 use Rattle.free_names.proofs.valued.open_scope.Goals as goal

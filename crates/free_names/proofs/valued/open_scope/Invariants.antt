@@ -1,9 +1,9 @@
 use Rattle.std.proofs.Common.{map}
 use Rattle.std.specs.Ordering.{nat_cmp}
 use Rattle.std.specs.BTreeSet.{contains}
-use Rattle.qe_syntax.specs.CodeTrees.{formula_tree}
-use Rattle.qe_syntax.specs.Valued.{prefix_of}
-use Rattle.formula_tree.specs.Names.{place}
+use Rattle.written_syntax.specs.CodeTrees.{formula_tree}
+use Rattle.written_syntax.specs.Valued.{prefix_of}
+use Rattle.logic_meaning.specs.Names.{place}
 use Rattle.free_names.proofs.Scopes.{IsOpening}
 use Rattle.free_names.proofs.valued.open_scope.Given as goal
 

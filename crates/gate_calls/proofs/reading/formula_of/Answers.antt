@@ -1,8 +1,8 @@
 use Rattle.std.proofs.Common.{◌≡◌, length, map, sym, rules, ◌∙◌}
-use Rattle.qe_syntax.specs.CodeTrees.{inner_of}
-use Rattle.statement_syntax.specs.LastTokens.{all_in_order}
-use Rattle.inner_commands.specs.Order.{nest_of}
-use Rattle.inner_commands.proofs.Gathering.{no_steps}
+use Rattle.written_syntax.specs.CodeTrees.{inner_of}
+use Rattle.written_syntax.specs.LastTokens.{all_in_order}
+use Rattle.formula_resolving.specs.Order.{nest_of}
+use Rattle.formula_resolving.proofs.Gathering.{no_steps}
 use Rattle.gate_calls.proofs.PlainFormulas.{echo_writable}
 use Rattle.gate_calls.proofs.reading.formula_of.Goals as goal
 

@@ -1,10 +1,10 @@
 use Rattle.std.proofs.Common.{sym, subst}
 use Rattle.std.specs.Prelude.{Result, Ok, Err, IfOk, IfSome}
 use Rattle.std.specs.Result.{result_ok}
-use Rattle.formula_meaning.specs.Every.{Every}
-use Rattle.atom_normal.specs.Atoms.{context_of}
-use Rattle.atom_normal.specs.NormalForm.{IsNormal}
-use Rattle.elimination_reference.proofs.Sound.{normal_normal_tree}
+use Rattle.logic_meaning.specs.Every.{Every}
+use Rattle.normal_atoms.specs.Atoms.{context_of}
+use Rattle.logic_meaning.specs.NormalForm.{IsNormal}
+use Rattle.elimination_theory.proofs.Sound.{normal_normal_tree}
 use Rattle.formula_store.specs.Nodes.{tree}
 use Rattle.formula_tree.specs.declared.tree.Tree.{Tree}
 use Rattle.formula_tree.specs.Trees.{tree_of}

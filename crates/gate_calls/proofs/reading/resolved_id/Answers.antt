@@ -1,13 +1,13 @@
 use Rattle.std.proofs.Common.{[], sym, subst}
-use Rattle.formula_meaning.specs.Context.{Context}
-use Rattle.formula_meaning.specs.Every.{Every}
-use Rattle.atom_normal.specs.Atoms.{context_of}
-use Rattle.atom_normal.specs.NormalForm.{IsNormal}
+use Rattle.logic_meaning.specs.Context.{Context}
+use Rattle.logic_meaning.specs.Every.{Every}
+use Rattle.normal_atoms.specs.Atoms.{context_of}
+use Rattle.logic_meaning.specs.NormalForm.{IsNormal}
 use Rattle.formula_resolving.specs.BoundIds.{trees_bound}
 use Rattle.formula_store.specs.Nodes.{tree}
 use Rattle.resolved_formulas.specs.ResolvedLaws.{HasNormalTrees}
 use Rattle.resolved_formulas.proofs.ResolvedTruth.{resolving_is_normal}
-use Rattle.qe_syntax.specs.CodeTrees.{named_tree}
+use Rattle.written_syntax.specs.CodeTrees.{named_tree}
 use Rattle.gate_calls.proofs.reading.resolved_id.Goals as goal
 
 nothing_bound : (c : Context) → HasNormalTrees c []

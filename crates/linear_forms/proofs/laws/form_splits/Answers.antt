@@ -1,5 +1,5 @@
-use Rattle.formula_meaning.proofs.Values.{value_split}
-use Rattle.formula_meaning.proofs.Coefficients.{coefficient_without_same}
+use Rattle.formula_laws.proofs.Values.{value_split}
+use Rattle.formula_laws.proofs.Coefficients.{coefficient_without_same}
 use Rattle.linear_forms.proofs.Determined.{without_linear}
 use Rattle.linear_forms.proofs.laws.form_splits.Goals as goal
 

@@ -1,9 +1,9 @@
 use Rattle.std.proofs.Common.{◌≡◌, ◌+◌, ◌<◌, subst, sym, ap, ◌∙◌, rules, arith, FitsSigned, pos, ℤ, inl, inr, length, ◌⊎◌, ◌≤◌, List}
 use Rattle.std.specs.Int.{w128, cast_unsigned}
 use Rattle.std.proofs.lemmas.Int.{to_z-of_z}
-use Rattle.formula_meaning.specs.FromExactNumbers.{InLimit}
-use Rattle.formula_meaning.proofs.FromExactNumbers.{fits, zero_bits}
-use Rattle.linear_forms.specs.declared.form.VarId.{VarId}
+use Rattle.exact_numbers.specs.Limit.{InLimit}
+use Rattle.exact_numbers.proofs.Casts.{fits, zero_bits}
+use Rattle.logic_meaning.specs.declared.form.VarId.{VarId}
 use Rattle.linear_forms.specs.Linear.{terms_of}
 use Rattle.linear_forms.proofs.MergeSteps.{merged_start, merged_nothing, merged_term, place_passes}
 use Rattle.linear_forms.proofs.Peeling.{terms_of-push}

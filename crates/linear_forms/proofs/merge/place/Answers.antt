@@ -1,8 +1,9 @@
 use Rattle.std.proofs.Common.{◌≡◌}
 use Rattle.std.specs.Prelude.{◌+ℤ◌, ◌*ℤ◌}
 use Rattle.std.proofs.lemmas.Int.{to_z-of_z}
-use Rattle.formula_meaning.specs.FromExactNumbers.{checked}
-use Rattle.formula_meaning.proofs.FromExactNumbers.{fits, formed_by}
+use Rattle.exact_numbers.specs.Limit.{checked}
+use Rattle.exact_numbers.proofs.Casts.{fits}
+use Rattle.exact_numbers.proofs.Limits.{formed_by}
 use Rattle.linear_forms.proofs.Places.{place_given}
 use Rattle.linear_forms.proofs.merge.place.Goals as goal
 

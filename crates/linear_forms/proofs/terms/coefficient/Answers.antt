@@ -2,7 +2,7 @@ use Rattle.std.proofs.Common.{◌≡◌, pos, ℤ, FitsSigned, rules, nat_cmp, g
 use Rattle.std.specs.Int.{w128}
 use Rattle.std.proofs.lemmas.Int.{to_z-of_z}
 use Rattle.std.proofs.lemmas.Fn.{always_returns_same}
-use Rattle.linear_forms.specs.declared.form.VarId.{VarId}
+use Rattle.logic_meaning.specs.declared.form.VarId.{VarId}
 use Rattle.linear_forms.proofs.Search.{found, not_found, names_compare}
 use Rattle.linear_forms.proofs.terms.coefficient.Goals as goal
 

@@ -1,8 +1,9 @@
 use Rattle.std.proofs.Common.{take_all, ◌≡◌, pos, ℤ, rules, arith, get_or, take}
 use Rattle.std.proofs.lemmas.Int.{ints, to_z-of_z}
-use Rattle.formula_meaning.proofs.FromExactNumbers.{content_unique, content_is, fits}
-use Rattle.linear_forms.specs.declared.form.VarId.{VarId}
-use Rattle.linear_forms.specs.Terms.{coefficients}
+use Rattle.exact_numbers.proofs.Contents.{content_unique, content_is}
+use Rattle.exact_numbers.proofs.Casts.{fits}
+use Rattle.logic_meaning.specs.declared.form.VarId.{VarId}
+use Rattle.logic_meaning.specs.Terms.{coefficients}
 use Rattle.linear_forms.specs.Linear.{terms_of}
 use Rattle.linear_forms.proofs.Division.{within_at, content_nothing, content_more}
 use Rattle.linear_forms.proofs.terms.content.Goals as goal

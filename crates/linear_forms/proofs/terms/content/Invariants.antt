@@ -1,6 +1,7 @@
 use Rattle.std.proofs.Common.{take}
-use Rattle.formula_meaning.specs.FromExactNumbers.{InLimit, IsContent}
-use Rattle.linear_forms.specs.Terms.{coefficients}
+use Rattle.exact_numbers.specs.Limit.{InLimit}
+use Rattle.exact_numbers.specs.Division.{IsContent}
+use Rattle.logic_meaning.specs.Terms.{coefficients}
 use Rattle.linear_forms.specs.Linear.{terms_of}
 use Rattle.linear_forms.proofs.terms.content.Given as goal
 

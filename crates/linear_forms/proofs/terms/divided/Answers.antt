@@ -5,8 +5,9 @@ use Rattle.std.specs.List.{AllZip}
 use Rattle.std.proofs.lemmas.List.{get_or_default}
 use Rattle.std.proofs.lemmas.List.Elements.{all_zip_more}
 use Rattle.std.proofs.lemmas.Int.{to_z-of_z}
-use Rattle.formula_meaning.proofs.FromExactNumbers.{fits, exact_div}
-use Rattle.linear_forms.specs.declared.form.VarId.{VarId}
+use Rattle.exact_numbers.proofs.Casts.{fits}
+use Rattle.exact_numbers.proofs.LeastMultiple.{exact_div}
+use Rattle.logic_meaning.specs.declared.form.VarId.{VarId}
 use Rattle.linear_forms.specs.Linear.{IsDivided}
 use Rattle.linear_forms.proofs.Division.{within_at, divides_at, exact_quotient_fits}
 use Rattle.linear_forms.proofs.terms.divided.Goals as goal

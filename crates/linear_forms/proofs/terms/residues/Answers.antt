@@ -2,10 +2,10 @@ use Rattle.std.proofs.Common.{rules, ◌≡◌, FitsSigned, List, ◌++◌, get_
 use Rattle.std.proofs.lemmas.List.{drop_all, append-nil}
 use Rattle.std.specs.Int.{w128, cast_unsigned}
 use Rattle.std.proofs.lemmas.Int.{to_z-of_z}
-use Rattle.formula_meaning.proofs.FromExactNumbers.{fits, zero_bits}
-use Rattle.linear_forms.specs.declared.form.VarId.{VarId}
+use Rattle.exact_numbers.proofs.Casts.{fits, zero_bits}
+use Rattle.logic_meaning.specs.declared.form.VarId.{VarId}
 use Rattle.linear_forms.specs.Linear.{terms_of}
-use Rattle.linear_forms.specs.Reduction.{residues}
+use Rattle.logic_meaning.specs.Reduction.{residues}
 use Rattle.linear_forms.proofs.Reduced.{residues_skip, residues_keep}
 use Rattle.linear_forms.proofs.terms.residues.Goals as goal
 use Rattle.linear_forms.proofs.terms.residues.Goals.{then-rest-ne0+in_ok-push, else-rest-ne0}

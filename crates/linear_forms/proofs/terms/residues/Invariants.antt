@@ -1,6 +1,6 @@
 use Rattle.std.proofs.Common.{◌≡◌, ◌++◌, drop}
 use Rattle.linear_forms.specs.Linear.{terms_of}
-use Rattle.linear_forms.specs.Reduction.{residues}
+use Rattle.logic_meaning.specs.Reduction.{residues}
 use Rattle.linear_forms.proofs.terms.residues.Given as goal
 
 -- what is kept, and the residues of what is to come

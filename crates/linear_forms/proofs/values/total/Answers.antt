@@ -3,11 +3,12 @@ use Rattle.std.specs.Prelude.{◌*ℤ◌, ◌+ℤ◌}
 use Rattle.std.specs.Int.{w128}
 use Rattle.std.proofs.lemmas.List.{drop_all}
 use Rattle.std.proofs.lemmas.Int.{to_z-of_z}
-use Rattle.formula_meaning.specs.FromExactNumbers.{checked}
-use Rattle.formula_meaning.proofs.FromExactNumbers.{fits, formed_by}
-use Rattle.linear_forms.specs.declared.form.VarId.{VarId}
+use Rattle.exact_numbers.specs.Limit.{checked}
+use Rattle.exact_numbers.proofs.Casts.{fits}
+use Rattle.exact_numbers.proofs.Limits.{formed_by}
+use Rattle.logic_meaning.specs.declared.form.VarId.{VarId}
 use Rattle.linear_forms.specs.Linear.{term_of, terms_of}
-use Rattle.linear_forms.specs.Terms.{total_steps}
+use Rattle.logic_meaning.specs.Terms.{total_steps}
 use Rattle.linear_forms.specs.Values.{number_at}
 use Rattle.linear_forms.proofs.Steps.{step_product_none, step_sum_none, step_on, step_end, terms_from}
 use Rattle.linear_forms.proofs.values.total.Goals as goal

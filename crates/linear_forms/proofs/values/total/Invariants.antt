@@ -1,5 +1,5 @@
 use Rattle.std.proofs.Common.{◌≡◌, drop, pos}
-use Rattle.linear_forms.specs.Terms.{total_steps}
+use Rattle.logic_meaning.specs.Terms.{total_steps}
 use Rattle.linear_forms.specs.Linear.{terms_of}
 use Rattle.linear_forms.specs.Values.{number_at}
 use Rattle.linear_forms.proofs.values.total.Given as goal

@@ -2,7 +2,7 @@ use Rattle.std.proofs.Common.{None, Some, sym, ◌∙◌, ap}
 use Rattle.std.specs.Prelude.{option_map}
 use Rattle.exact_numbers.specs.Fraction.{frac_of}
 use Rattle.formula_store.specs.Nodes.{tree}
-use Rattle.least_theory.specs.Answer.{Infeasible, Unbounded, At}
+use Rattle.linear_theory.specs.Answer.{Infeasible, Unbounded, At}
 use Rattle.linear_opt.proofs.Listed.{found_far, found_near, answered}
 use Rattle.linear_opt.proofs.least.least_value.Goals as goal
 

@@ -5,7 +5,7 @@ use Rattle.formula_tree.specs.declared.shape.Shape.{Shape}
 use Rattle.formula_tree.specs.declared.shape.Shape.TheVariants as shape
 use Rattle.formula_store.specs.declared.id.FormulaId.{FormulaId}
 use Rattle.formula_store.specs.Nodes.{tree}
-use Rattle.least_theory.specs.Answer.{truth_by}
+use Rattle.linear_theory.specs.Answer.{truth_by}
 use Rattle.linear_opt.specs.Values.{told}
 use Rattle.linear_opt.specs.Truths.{IsThere, truth_in, all_of, some_of}
 use Rattle.linear_opt.proofs.Members.{all_same, some_same}

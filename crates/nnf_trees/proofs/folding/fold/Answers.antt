@@ -1,6 +1,6 @@
 use Rattle.std.proofs.Common.{rules, ◌≡◌, true, false, [], ◌∷◌, sym, ap, ◌∙◌, subst, length}
-use Rattle.formula_meaning.specs.Fold.{from_pieces, all_pieces}
-use Rattle.formula_tree.specs.FromAtomNormal.{constant_tree}
+use Rattle.logic_meaning.specs.Fold.{from_pieces, all_pieces}
+use Rattle.logic_meaning.specs.NormalForm.{constant_tree}
 use Rattle.nnf_trees.specs.Nnfs.{nnf_of, AreProper}
 use Rattle.nnf_trees.proofs.NnfEquations.{nnf-Constant, atoms-Constant}
 use Rattle.nnf_trees.proofs.Pieces.{Formulas_of, one_more, decided, all_put, absorbing_is, empty}

@@ -1,5 +1,5 @@
 use Rattle.std.proofs.Common.{◌≡◌, Some, map}
-use Rattle.formula_meaning.specs.Fold.{put_together, all_pieces}
+use Rattle.logic_meaning.specs.Fold.{put_together, all_pieces}
 use Rattle.formula_tree.specs.Trees.{members}
 use Rattle.nnf_trees.specs.Nnfs.{nnf_of, AreProper}
 use Rattle.nnf_trees.proofs.folding.fold.Given as goal

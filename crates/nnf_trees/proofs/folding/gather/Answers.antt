@@ -1,7 +1,7 @@
 use Rattle.std.proofs.Common.{Some, [], ◌∷◌, ◌++◌, sym, ap, ◌∙◌, subst}
-use Rattle.formula_meaning.specs.Fold.{pieces_of}
-use Rattle.formula_meaning.specs.Every.{Every, EveryOf}
-use Rattle.formula_tree.specs.FromAtomNormal.{IsWellFormed}
+use Rattle.logic_meaning.specs.Fold.{pieces_of}
+use Rattle.logic_meaning.specs.Every.{Every, EveryOf}
+use Rattle.normal_atoms.specs.Atoms.{IsWellFormed}
 use Rattle.nnf_trees.specs.declared.nnf.Nnf.{Nnf}
 use Rattle.nnf_trees.specs.Nnfs.{nnf_of, nnf_atoms}
 use Rattle.nnf_trees.proofs.NnfEquations.{nnf-Constant, nnf-One, nnf-Joined, nnf-Quantified, atoms-Joined}

@@ -1,7 +1,7 @@
 use Rattle.std.proofs.Common.{rules, ◌<◌, length, sym, ap, ◌∙◌, subst}
-use Rattle.formula_meaning.specs.Fold.{joined}
-use Rattle.formula_meaning.specs.Every.{Every, EveryOf}
-use Rattle.formula_tree.specs.FromAtomNormal.{IsWellFormed}
+use Rattle.logic_meaning.specs.Fold.{joined}
+use Rattle.logic_meaning.specs.Every.{Every, EveryOf}
+use Rattle.normal_atoms.specs.Atoms.{IsWellFormed}
 use Rattle.nnf_trees.specs.Nnfs.{nnf_of}
 use Rattle.nnf_trees.proofs.NnfEquations.{nnf-Joined, atoms-Joined}
 use Rattle.nnf_trees.proofs.Pieces.{two_pieces}

@@ -1,8 +1,8 @@
 use Rattle.std.proofs.Common.{arith, ◌≡◌, ◌≤◌, ◌+◌, ◌∷◌, List, map, drop, sym, ap, ◌∙◌, subst}
 use Rattle.std.proofs.lemmas.List.{at_drop_all}
-use Rattle.formula_meaning.specs.Every.{EveryOf}
-use Rattle.formula_meaning.specs.Fold.{append}
-use Rattle.formula_meaning.specs.Sizes.{nodes, all_nodes}
+use Rattle.logic_meaning.specs.Every.{EveryOf}
+use Rattle.logic_meaning.specs.Fold.{append}
+use Rattle.logic_meaning.specs.Sizes.{nodes, all_nodes}
 use Rattle.formula_tree.specs.declared.tree.Tree.{Tree}
 use Rattle.formula_tree.specs.Trees.{members, tree_of, trees_of}
 use Rattle.nnf_trees.specs.declared.nnf.Nnf.{Nnf}

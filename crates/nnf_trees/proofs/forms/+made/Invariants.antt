@@ -1,7 +1,7 @@
 use Rattle.std.proofs.Common.{◌≡◌, ◌≤◌, ◌+◌, ◌*◌, map, drop}
-use Rattle.formula_meaning.specs.Sizes.{nodes, all_nodes}
-use Rattle.formula_meaning.specs.Every.{EveryOf}
-use Rattle.formula_meaning.specs.Fold.{append}
+use Rattle.logic_meaning.specs.Sizes.{nodes, all_nodes}
+use Rattle.logic_meaning.specs.Every.{EveryOf}
+use Rattle.logic_meaning.specs.Fold.{append}
 use Rattle.formula_tree.specs.Trees.{members, tree_of, trees_of}
 use Rattle.nnf_trees.specs.Nnfs.{nnf_of, AreProper, HasModulus}
 use Rattle.nnf_trees.specs.Forms.{forms}

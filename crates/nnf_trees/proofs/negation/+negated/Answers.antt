@@ -1,9 +1,9 @@
 use Rattle.std.proofs.Common.{arith, ◌≡◌, ◌≤◌, ◌+◌, ◌∷◌, List, map, drop, sym, ap, ◌∙◌, subst, true}
 use Rattle.std.proofs.lemmas.List.{at_drop_all}
-use Rattle.formula_meaning.specs.Every.{EveryOf}
-use Rattle.formula_meaning.specs.Fold.{append}
-use Rattle.formula_meaning.specs.Sizes.{nodes, all_nodes}
-use Rattle.formula_tree.specs.FromAtomNormal.{IsWellFormed}
+use Rattle.logic_meaning.specs.Every.{EveryOf}
+use Rattle.logic_meaning.specs.Fold.{append}
+use Rattle.logic_meaning.specs.Sizes.{nodes, all_nodes}
+use Rattle.normal_atoms.specs.Atoms.{IsWellFormed}
 use Rattle.formula_tree.specs.Trees.{members}
 use Rattle.nnf_trees.specs.declared.nnf.Nnf.{Nnf}
 use Rattle.nnf_trees.specs.Nnfs.{nnf_of, nnfs_of, AreProper}

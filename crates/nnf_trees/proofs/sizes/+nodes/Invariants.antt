@@ -1,5 +1,5 @@
 use Rattle.std.proofs.Common.{◌≡◌, ◌+◌, ◌*◌, ◌<◌, ◌^◌, map, drop}
-use Rattle.formula_meaning.specs.Sizes.{nodes, all_nodes}
+use Rattle.logic_meaning.specs.Sizes.{nodes, all_nodes}
 use Rattle.formula_tree.specs.Trees.{members}
 use Rattle.nnf_trees.specs.Nnfs.{nnf_of, nnfs_of}
 use Rattle.nnf_trees.proofs.sizes.+nodes.Given as goal

@@ -1,7 +1,7 @@
 use Rattle.std.proofs.Common.{arith, ◌≡◌, ◌≤◌, ℕ, ◌+◌, List, map, drop, sym, ap, ◌∙◌, refl, subst, Bool, false, true, zero-add}
 use Rattle.std.proofs.lemmas.List.{at_drop_all}
-use Rattle.formula_meaning.specs.Formula.{Equiv}
-use Rattle.formula_meaning.specs.Sizes.{nodes, all_nodes}
+use Rattle.logic_meaning.specs.Formula.{Equiv}
+use Rattle.logic_meaning.specs.Sizes.{nodes, all_nodes}
 use Rattle.formula_tree.specs.declared.tree.Tree.{Tree}
 use Rattle.formula_tree.specs.Trees.{members, tree_of, trees_of}
 use Rattle.formula_tree.proofs.TreeEquations.{tree-Impl, tree-Repl, tree-Equiv}

@@ -1,5 +1,5 @@
 use Rattle.std.proofs.Common.{◌≤◌, ◌+◌, ◌*◌, map, drop, false, true}
-use Rattle.formula_meaning.specs.Sizes.{nodes, all_nodes}
+use Rattle.logic_meaning.specs.Sizes.{nodes, all_nodes}
 use Rattle.formula_tree.specs.Trees.{members, tree_of, trees_of}
 use Rattle.nnf_trees.specs.Forms.{forms}
 use Rattle.nnf_trees.proofs.Counting.{CountsBefore}

@@ -1,9 +1,9 @@
 use Rattle.std.proofs.Common.{◌<◌, sym, subst, get_or, arith}
-use Rattle.atom_normal.specs.Atoms.{context_of}
+use Rattle.normal_atoms.specs.Atoms.{context_of}
 use Rattle.formula_store.specs.declared.id.FormulaId.{FormulaId}
 use Rattle.formula_store.specs.Nodes.{tree, IsId}
 use Rattle.formula_store.proofs.Marked.{all_at}
-use Rattle.clean_forms.specs.Laws.{IsDistributable}
+use Rattle.shape_theory.specs.CleanFormsLaws.{IsDistributable}
 use Rattle.normal_forms.proofs.Grown.{keeps_then, line_ids_stay}
 use Rattle.normal_forms.proofs.Parts.{member_step}
 use Rattle.normal_forms.proofs.Tables.{told_stays}

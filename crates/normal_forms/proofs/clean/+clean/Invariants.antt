@@ -1,11 +1,11 @@
 use Rattle.std.proofs.Common.{◌+◌, ◌*◌, map, take}
-use Rattle.atom_normal.specs.Atoms.{context_of}
+use Rattle.normal_atoms.specs.Atoms.{context_of}
 use Rattle.formula_tree.specs.Trees.{members}
 use Rattle.formula_tree.specs.Makers.{Keeps}
 use Rattle.formula_store.specs.Nodes.{IsId, tree}
-use Rattle.simplified_formulas.specs.AtomKit.{atom_kit}
-use Rattle.clean_forms.specs.Plain.{of_none}
-use Rattle.clean_forms.specs.Lines.{more_clean_lines}
+use Rattle.shape_theory.specs.AtomKit.{atom_kit}
+use Rattle.logic_meaning.specs.PlainForms.{of_none}
+use Rattle.shape_theory.specs.Lines.{more_clean_lines}
 use Rattle.normal_forms.specs.Atoms.{AreLines}
 use Rattle.normal_forms.proofs.clean.+clean.Given as goal
 

@@ -1,8 +1,8 @@
 use Rattle.std.proofs.Common.{rules, ◌≡◌, sym, subst, List, [], ◌∷◌, ◌++◌, None, Some}
-use Rattle.atom_normal.specs.Atoms.{context_of, atom_of}
+use Rattle.normal_atoms.specs.Atoms.{context_of, atom_of}
 use Rattle.formula_store.specs.declared.id.FormulaId.{FormulaId}
-use Rattle.simplified_formulas.specs.AtomKit.{atom_kit}
-use Rattle.clean_forms.specs.Lines.{insert_into}
+use Rattle.shape_theory.specs.AtomKit.{atom_kit}
+use Rattle.shape_theory.specs.Lines.{insert_into}
 use Rattle.normal_forms.specs.declared.merging.Met.{Met}
 use Rattle.normal_forms.specs.Atoms.{atom_at, atoms, IsLineIf}
 use Rattle.normal_forms.specs.Merging.{MeetsAs}

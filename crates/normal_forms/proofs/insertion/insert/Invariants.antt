@@ -1,5 +1,5 @@
 use Rattle.std.proofs.Common.{vec_len}
-use Rattle.atom_normal.specs.Atoms.{context_of}
+use Rattle.normal_atoms.specs.Atoms.{context_of}
 use Rattle.normal_forms.proofs.Inserted.{Puts}
 use Rattle.normal_forms.proofs.insertion.insert.Given as goal
 

@@ -1,8 +1,8 @@
 use Rattle.std.proofs.Common.{◌+◌, subst, get_or, List, Option, None, Some}
-use Rattle.atom_normal.specs.Atoms.{context_of}
+use Rattle.normal_atoms.specs.Atoms.{context_of}
 use Rattle.formula_store.specs.declared.id.FormulaId.{FormulaId}
-use Rattle.simplified_formulas.specs.AtomKit.{atom_kit}
-use Rattle.clean_forms.specs.Lines.{insert_into}
+use Rattle.shape_theory.specs.AtomKit.{atom_kit}
+use Rattle.shape_theory.specs.Lines.{insert_into}
 use Rattle.normal_forms.specs.Atoms.{atom_at, atoms, IsAtomId, IsLineIf}
 use Rattle.formula_store.proofs.Marked.{all_at}
 use Rattle.normal_forms.proofs.Grown.{keeps_then, atom_id_stays}

@@ -1,9 +1,9 @@
 use Rattle.std.proofs.Common.{Some, take}
-use Rattle.atom_normal.specs.Atoms.{context_of}
+use Rattle.normal_atoms.specs.Atoms.{context_of}
 use Rattle.formula_tree.specs.Makers.{Keeps}
 use Rattle.formula_store.specs.Nodes.{IsId, tree}
-use Rattle.simplified_formulas.specs.AtomKit.{atom_kit}
-use Rattle.clean_forms.specs.Lines.{insert_all}
+use Rattle.shape_theory.specs.AtomKit.{atom_kit}
+use Rattle.shape_theory.specs.Lines.{insert_all}
 use Rattle.normal_forms.specs.Atoms.{atoms, IsLineIf}
 use Rattle.normal_forms.proofs.insertion.insert_all.Given as goal
 

@@ -1,5 +1,5 @@
 use Rattle.std.proofs.Common.{◌∙◌, sym, ap, ◌∷◌, [], List}
-use Rattle.formula_meaning.specs.declared.junction.Junction.TheVariants.{Conjunction}
+use Rattle.logic_meaning.specs.declared.junction.Junction.TheVariants.{Conjunction}
 use Rattle.formula_store.specs.declared.id.FormulaId.{FormulaId}
 use Rattle.normal_forms.specs.Atoms.{id_kit, add}
 use Rattle.normal_forms.proofs.LineSteps.{all_then}

@@ -1,9 +1,9 @@
 use Rattle.std.proofs.Common.{take}
-use Rattle.atom_normal.specs.Atoms.{context_of}
+use Rattle.normal_atoms.specs.Atoms.{context_of}
 use Rattle.formula_tree.specs.Makers.{Keeps}
 use Rattle.formula_store.specs.Nodes.{IsId, tree}
-use Rattle.simplified_formulas.specs.AtomKit.{atom_kit}
-use Rattle.clean_forms.specs.Lines.{add_line_products}
+use Rattle.shape_theory.specs.AtomKit.{atom_kit}
+use Rattle.shape_theory.specs.Lines.{add_line_products}
 use Rattle.normal_forms.specs.Atoms.{atoms, lines, AreLines}
 use Rattle.normal_forms.proofs.lines.add_line_products.Given as goal
 

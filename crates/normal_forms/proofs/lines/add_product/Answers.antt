@@ -1,8 +1,8 @@
 use Rattle.std.proofs.Common.{◌≡◌, sym, subst, List, Option, Some}
-use Rattle.atom_normal.specs.Atoms.{context_of}
+use Rattle.normal_atoms.specs.Atoms.{context_of}
 use Rattle.formula_store.specs.declared.id.FormulaId.{FormulaId}
-use Rattle.simplified_formulas.specs.AtomKit.{atom_kit}
-use Rattle.clean_forms.specs.Lines.{insert_all, add_if}
+use Rattle.shape_theory.specs.AtomKit.{atom_kit}
+use Rattle.shape_theory.specs.Lines.{insert_all, add_if}
 use Rattle.normal_forms.specs.Atoms.{atoms, lines, IsLineIf, AreLines, add}
 use Rattle.normal_forms.proofs.LineSteps.{on_ok, nothing_added, something_added}
 use Rattle.normal_forms.proofs.lines.add_product.Goals as goal

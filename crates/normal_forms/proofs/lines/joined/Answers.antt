@@ -1,8 +1,8 @@
 use Rattle.std.proofs.Common.{sym, subst, Bool, false, List}
-use Rattle.atom_normal.specs.Atoms.{context_of}
+use Rattle.normal_atoms.specs.Atoms.{context_of}
 use Rattle.formula_store.specs.declared.id.FormulaId.{FormulaId}
-use Rattle.simplified_formulas.specs.AtomKit.{atom_kit}
-use Rattle.clean_forms.specs.Lines.{joined_lines}
+use Rattle.shape_theory.specs.AtomKit.{atom_kit}
+use Rattle.shape_theory.specs.Lines.{joined_lines}
 use Rattle.normal_forms.specs.Atoms.{lines, AreLines}
 use Rattle.normal_forms.proofs.LineSteps.{all_added}
 use Rattle.normal_forms.proofs.lines.joined.Goals as goal

@@ -1,9 +1,9 @@
 use Rattle.std.proofs.Common.{◌≡◌, ◌∙◌, sym, ap, subst, get_or, take, List, length, arith, ◌≤◌}
 use Rattle.std.specs.List.{AllByRecursion}
 use Rattle.std.proofs.lemmas.List.{take_all}
-use Rattle.atom_normal.specs.Atoms.{context_of, atom_of}
-use Rattle.atom_merging.specs.declared.answers.Merged.{Merged}
-use Rattle.atom_merging.specs.Computed.{Settled, Into, merged, merging_of}
+use Rattle.normal_atoms.specs.Atoms.{context_of, atom_of}
+use Rattle.normal_atoms.specs.declared.answers.Merged.{Merged}
+use Rattle.normal_atoms.specs.Computed.{Settled, Into, merged, merging_of}
 use Rattle.formula_store.specs.declared.id.FormulaId.{FormulaId}
 use Rattle.normal_forms.specs.Atoms.{atom_at}
 use Rattle.normal_forms.specs.Merging.{IsWellMerged}

@@ -1,5 +1,5 @@
 use Rattle.std.proofs.Common.{◌≡◌, ◌∙◌, ap, subst, map, Some, List, length}
-use Rattle.formula_meaning.specs.Fold.{from_pieces}
+use Rattle.logic_meaning.specs.Fold.{from_pieces}
 use Rattle.formula_tree.specs.Trees.{members}
 use Rattle.formula_tree.specs.Shapes.{tree_over}
 use Rattle.formula_tree.specs.Makers.{IsMade}

@@ -1,14 +1,14 @@
 use Rattle.std.proofs.Common.{rules, ◌≡◌, ◌+◌, ◌≤◌, ◌∙◌, ◌++◌, ◌∷◌, [], sym, subst, get_or, take, map, length, arith, Some, List}
 use Rattle.std.proofs.lemmas.List.{take_all}
 use Rattle.std.specs.List.{AllByRecursion}
-use Rattle.formula_meaning.specs.Fold.{from_pieces}
-use Rattle.formula_meaning.specs.declared.junction.Junction.{Junction}
-use Rattle.atom_normal.specs.Atoms.{context_of}
+use Rattle.logic_meaning.specs.Fold.{from_pieces}
+use Rattle.logic_meaning.specs.declared.junction.Junction.{Junction}
+use Rattle.normal_atoms.specs.Atoms.{context_of}
 use Rattle.formula_tree.specs.Trees.{members}
 use Rattle.formula_tree.specs.Makers.{IsMade}
 use Rattle.formula_store.specs.declared.id.FormulaId.{FormulaId}
 use Rattle.formula_store.specs.Nodes.{tree, IsId}
-use Rattle.clean_forms.specs.Ways.{form_of_lines}
+use Rattle.logic_meaning.specs.Ways.{form_of_lines}
 use Rattle.normal_forms.specs.Atoms.{AreAtomIds, AreLineIds, lines}
 use Rattle.normal_forms.proofs.Grown.{keeps_then, ids_stay}
 use Rattle.normal_forms.proofs.LineSteps.{all_get}

@@ -1,16 +1,16 @@
 use Rattle.std.proofs.Common.{◌≤◌, ℕ, ◌∙◌, sym, subst}
-use Rattle.formula_meaning.specs.Sizes.{nodes}
-use Rattle.formula_meaning.specs.Tree.{Tree, IsFree}
-use Rattle.formula_meaning.specs.Equivalence.{Equivalent}
-use Rattle.atom_normal.specs.Atoms.{context_of}
+use Rattle.logic_meaning.specs.Sizes.{nodes}
+use Rattle.logic_meaning.specs.Tree.{Tree, IsFree}
+use Rattle.formula_laws.specs.Equivalence.{Equivalent}
+use Rattle.normal_atoms.specs.Atoms.{context_of}
 use Rattle.formula_store.specs.Nodes.{tree}
-use Rattle.simplified_formulas.specs.Simplifiable.{IsSimplifiable}
-use Rattle.simplified_formulas.proofs.Limited.{simplifiable}
+use Rattle.shape_theory.specs.Simplifiable.{IsSimplifiable}
+use Rattle.shape_theory.proofs.Limited.{simplifiable}
 use Rattle.formula_store.proofs.Numbers.{numbers_are_within}
-use Rattle.clean_forms.specs.Plain.{plain_form}
-use Rattle.clean_forms.specs.Clean.{IsCleanForm}
-use Rattle.clean_forms.specs.Laws.{IsDistributable, IsNoLonger}
-use Rattle.clean_forms.proofs.TreeLaws.{is_clean, keeps_truth, keeps_shape, brings_no_name, brings_no_node, lengthens_no_text}
+use Rattle.logic_meaning.specs.PlainForms.{plain_form}
+use Rattle.logic_meaning.specs.Clean.{IsCleanForm}
+use Rattle.shape_theory.specs.CleanFormsLaws.{IsDistributable, IsNoLonger}
+use Rattle.shape_theory.proofs.CleanFormsTreeLaws.{is_clean, keeps_truth, keeps_shape, brings_no_name, brings_no_node, lengthens_no_text}
 use Rattle.normal_forms.proofs.Grown.{keeps_then}
 use Rattle.normal_forms.proofs.Formed.{free_told, clean_made, few_places}
 use Rattle.normal_forms.proofs.normal.normal_form.Goals as goal

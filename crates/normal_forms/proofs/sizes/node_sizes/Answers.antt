@@ -1,12 +1,12 @@
 use Rattle.std.proofs.Common.{◌∙◌, sym, ap, subst, map, List}
 use Rattle.std.specs.List.{AllByRecursion}
-use Rattle.formula_meaning.specs.declared.junction.Junction.TheVariants.{Conjunction, Disjunction}
+use Rattle.logic_meaning.specs.declared.junction.Junction.TheVariants.{Conjunction, Disjunction}
 use Rattle.formula_tree.specs.declared.shape.Shape.{Shape}
 use Rattle.formula_tree.specs.Shapes.{AllIds, tree_over}
 use Rattle.formula_store.specs.declared.id.FormulaId.{FormulaId}
 use Rattle.formula_store.specs.Nodes.{tree}
-use Rattle.clean_forms.specs.Ways.{is_same}
-use Rattle.clean_forms.specs.Counts.{nothing_sizes, sizes}
+use Rattle.logic_meaning.specs.Ways.{is_same}
+use Rattle.shape_theory.specs.Counts.{nothing_sizes, sizes}
 use Rattle.normal_forms.specs.Sizes.{capped, all_joined, sizes_at, IsThere}
 use Rattle.normal_forms.proofs.Tables.{list_told}
 use Rattle.normal_forms.proofs.sizes.node_sizes.Goals as goal

@@ -1,7 +1,7 @@
 use Rattle.std.proofs.Common.{◌∙◌, ◌∷◌, [], sym, ap, map, take, get_or, List}
 use Rattle.std.proofs.lemmas.List.{take_more, map-append}
 use Rattle.formula_store.specs.declared.id.FormulaId.{FormulaId}
-use Rattle.clean_forms.specs.Counts.{nothing_sizes, joined_sizes}
+use Rattle.shape_theory.specs.Counts.{nothing_sizes, joined_sizes}
 use Rattle.normal_forms.specs.declared.sizes.Sizes.{Sizes}
 use Rattle.normal_forms.specs.Sizes.{capped, counted, all_joined, sizes_at}
 use Rattle.normal_forms.proofs.Capped.{joined_more}

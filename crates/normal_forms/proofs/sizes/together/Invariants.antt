@@ -1,5 +1,5 @@
 use Rattle.std.proofs.Common.{◌≡◌, map, take}
-use Rattle.clean_forms.specs.Counts.{nothing_sizes}
+use Rattle.shape_theory.specs.Counts.{nothing_sizes}
 use Rattle.normal_forms.specs.Sizes.{capped, all_joined, sizes_at}
 use Rattle.normal_forms.proofs.sizes.together.Given as goal
 

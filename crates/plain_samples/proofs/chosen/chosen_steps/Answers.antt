@@ -1,15 +1,15 @@
 use Rattle.std.proofs.Common.{rules, ◌≡◌, false, sym, ap, ◌∙◌, subst}
-use Rattle.formula_meaning.specs.Sizes.{nodes}
-use Rattle.elimination_reference.specs.PutIn.{put_in}
-use Rattle.elimination_reference.specs.Sample.{chosen_steps}
-use Rattle.atom_normal.specs.Atoms.{context_of}
+use Rattle.logic_meaning.specs.Sizes.{nodes}
+use Rattle.logic_meaning.specs.PutIn.{put_in}
+use Rattle.logic_meaning.specs.Sample.{chosen_steps}
+use Rattle.normal_atoms.specs.Atoms.{context_of}
 use Rattle.formula_tree.specs.Trees.{tree_of}
 use Rattle.linear_forms.specs.Values.{point_of}
 use Rattle.nnf_trees.specs.Forms.{form}
 use Rattle.nnf_trees.specs.Nnfs.{nnf_of}
-use Rattle.sample_values.specs.FromPlainEngine.{IsReady}
-use Rattle.sample_values.proofs.FromPlainEngine.{form_ready}
-use Rattle.sample_values.specs.FromTracedCases.{steps_seen}
+use Rattle.reference_engine.specs.Ready.{IsReady}
+use Rattle.reference_engine.proofs.Readiness.{form_ready}
+use Rattle.plain_samples.specs.Steps.{steps_seen}
 use Rattle.plain_samples.proofs.Choosing.{told_chosen, put_stays}
 use Rattle.plain_samples.proofs.Telling.{told_made, told_stops}
 use Rattle.plain_samples.proofs.chosen.chosen_steps.Goals as goal

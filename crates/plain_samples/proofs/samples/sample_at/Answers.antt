@@ -1,13 +1,13 @@
-use Rattle.atom_normal.specs.Atoms.{context_of}
-use Rattle.elimination_reference.specs.Sample.{chosen_steps}
+use Rattle.normal_atoms.specs.Atoms.{context_of}
+use Rattle.logic_meaning.specs.Sample.{chosen_steps}
 use Rattle.formula_tree.specs.Trees.{tree_of}
 use Rattle.linear_forms.specs.Values.{point_of}
-use Rattle.sample_values.proofs.FromPlainEngine.{told_then}
-use Rattle.sample_reference.specs.Sample.{sampled, reference_sample}
+use Rattle.reference_engine.proofs.Seen.{told_then}
+use Rattle.logic_meaning.specs.ReferenceSample.{sampled, reference_sample}
 use Rattle.sample_reference.specs.TrueSample.{IsTrueSample}
 use Rattle.sample_reference.specs.Seen.{sample_of}
 use Rattle.sample_reference.proofs.Sound.{sample_true}
-use Rattle.sample_values.specs.FromTracedCases.{steps_seen}
+use Rattle.plain_samples.specs.Steps.{steps_seen}
 use Rattle.plain_samples.proofs.Telling.{told_gives}
 use Rattle.plain_samples.proofs.samples.sample_at.Goals as goal
 

@@ -1,12 +1,12 @@
-use Rattle.atom_normal.specs.Atoms.{context_of}
-use Rattle.elimination_reference.specs.Cases.{case_sign}
-use Rattle.elimination_reference.specs.Reference.{leading_branches, normal_tree}
+use Rattle.normal_atoms.specs.Atoms.{context_of}
+use Rattle.logic_meaning.specs.Cases.{case_sign}
+use Rattle.logic_meaning.specs.Reference.{leading_branches, normal_tree}
 use Rattle.formula_tree.specs.Trees.{tree_of}
 use Rattle.sample_reference.specs.TrueSample.{closed_sample, IsTrueSample}
 use Rattle.sample_reference.specs.Seen.{sample_of}
-use Rattle.sample_reference.specs.Values.{origin}
+use Rattle.logic_meaning.specs.Values.{origin}
 use Rattle.sample_reference.proofs.Closed.{closed_sample_true}
-use Rattle.sample_values.specs.FromTracedCases.{steps_seen}
+use Rattle.plain_samples.specs.Steps.{steps_seen}
 use Rattle.plain_samples.proofs.Telling.{told_made, told_gives, told_sample}
 use Rattle.plain_samples.proofs.samples.sample_plain.Goals as goal
 

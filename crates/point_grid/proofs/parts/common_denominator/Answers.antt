@@ -5,8 +5,8 @@ use Rattle.std.proofs.lemmas.Int.{to_z-of_z}
 use Rattle.exact_numbers.specs.Limit.{checked, InLimit}
 use Rattle.exact_numbers.proofs.Casts.{fits}
 use Rattle.exact_numbers.proofs.Limits.{checked_in}
-use Rattle.point_grid.specs.declared.axis.Axis.{Axis}
-use Rattle.point_grid.specs.Grids.{multiple_of, common}
+use Rattle.program_meaning.specs.declared.axis.Axis.{Axis}
+use Rattle.program_meaning.specs.GridPoints.{multiple_of, common}
 use Rattle.std.proofs.lemmas.List.{drop_all}
 use Rattle.point_grid.proofs.Lists.{drop_at}
 use Rattle.point_grid.proofs.Multiples.{next_multiple, next_positive, next_none, none_left, within_of}

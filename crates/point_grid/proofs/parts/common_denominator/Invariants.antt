@@ -1,6 +1,6 @@
 use Rattle.std.proofs.Common.{◌≡◌, drop, pos, ◌<ℤ◌}
 use Rattle.exact_numbers.specs.Limit.{InLimit}
-use Rattle.point_grid.specs.Grids.{multiple_of}
+use Rattle.program_meaning.specs.GridPoints.{multiple_of}
 use Rattle.point_grid.proofs.parts.common_denominator.Given as goal
 
 -- the multiple with the denominators left is that of all

@@ -1,7 +1,7 @@
 use Rattle.std.proofs.Common.{◌≡◌, ◌*◌, ◌-◌, ◌^◌, ◌+◌, List, drop, min, subst, arith, get_or}
 use Rattle.std.proofs.Math.IntN.{pos}
-use Rattle.point_grid.specs.declared.scale.Scale.{Scale}
-use Rattle.point_grid.specs.Scales.{size}
+use Rattle.program_meaning.specs.declared.scale.Scale.{Scale}
+use Rattle.program_meaning.specs.Scales.{size}
 use Rattle.std.proofs.lemmas.List.{drop_all, at_drop_more}
 use Rattle.point_grid.proofs.Lists.{size_next, size_begun, size_done}
 use Rattle.point_grid.proofs.parts.product_of_counts.Goals as goal

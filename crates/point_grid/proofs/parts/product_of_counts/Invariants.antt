@@ -1,5 +1,5 @@
 use Rattle.std.proofs.Common.{◌≡◌, ◌*◌, ◌-◌, ◌^◌, ◌≤◌, drop, min}
-use Rattle.point_grid.specs.Scales.{size}
+use Rattle.program_meaning.specs.Scales.{size}
 use Rattle.point_grid.proofs.parts.product_of_counts.Given as goal
 
 -- the product so far, with that of the counts left, is that of all

@@ -1,11 +1,11 @@
 use Rattle.std.proofs.lemmas.Int.{to_z-of_z}
-use Rattle.point_grid.specs.Grids.{AxisPasses}
+use Rattle.program_meaning.specs.GridPoints.{AxisPasses}
 use Rattle.point_grid.specs.Steps.{HasSteps}
 use Rattle.point_grid.proofs.Lists.{each_at, some_at}
 use Rattle.point_grid.proofs.parts.scales_over.Goals as goal
 
-pub scale-requires-clause-common : goal.scale-requires-clause-common
-scale-requires-clause-common c =
+pub scale_over-requires-clause-common : goal.scale_over-requires-clause-common
+scale_over-requires-clause-common c =
     let f = c.ranges.denominator in
     let h = each_at (HasSteps c.args.denominator) c.args.axes.now c.loop-axis.axis-index c.axis-item.result c.loop-axis-test.true c.axis-item.is c.requires.steps in
     simp to_z-of_z h.multiple

@@ -1,7 +1,7 @@
 use Rattle.std.proofs.Common.{◌≡◌, take, map}
 use Rattle.std.specs.List.{AllByRecursion}
 use Rattle.point_grid.specs.ScaleWithin.{IsWithin}
-use Rattle.point_grid.specs.Grids.{scale_of, AxisFits}
+use Rattle.program_meaning.specs.GridPoints.{scale_of, AxisFits}
 use Rattle.point_grid.proofs.parts.scales_over.Given as goal
 
 -- the axes so far, over the denominator

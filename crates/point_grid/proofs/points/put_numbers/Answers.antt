@@ -3,8 +3,8 @@ use Rattle.std.proofs.Math.IntN.{pos}
 use Rattle.std.specs.Prelude.{if◌then◌else◌}
 use Rattle.exact_numbers.proofs.Casts.{fits}
 use Rattle.std.proofs.lemmas.Int.{to_z-of_z}
-use Rattle.point_grid.specs.declared.scale.Scale.{Scale}
-use Rattle.point_grid.specs.Scales.{size, choice, number_of}
+use Rattle.program_meaning.specs.declared.scale.Scale.{Scale}
+use Rattle.program_meaning.specs.Scales.{size, choice, number_of}
 use Rattle.linear_forms.specs.Values.{number_at}
 use Rattle.std.proofs.lemmas.List.{drop_all, at_drop_more}
 use Rattle.point_grid.proofs.Choices.{Parts, parts, next_choice, last_choice}
@@ -26,8 +26,8 @@ nonzero_div-left c =
     let ps = parts_at c.args.scales.now c.loop-scale.scale-index c.loop-scale.stride c.loop-scale.left c.loop-scale-test.true c.loop-scale.invariant.stride c.loop-scale.invariant.inside in
     subst (λ (n : ℕ). 0 < n) (sym ps.stride_is) ps.some_left
 
-pub number-requires-clause-index : goal.number-requires-clause-index
-number-requires-clause-index c =
+pub number_in-requires-clause-index : goal.number_in-requires-clause-index
+number_in-requires-clause-index c =
     let ps = parts_at c.args.scales.now c.loop-scale.scale-index c.loop-scale.stride c.loop-scale.left c.loop-scale-test.true c.loop-scale.invariant.stride c.loop-scale.invariant.inside in
     let s = get_or c.args.scales.now c.loop-scale.scale-index (record { name = record { number = 0 }; low = pos 0; step = 0; count = 0 }) in
     subst (λ (n : ℕ). c.loop-scale.left / n < s.count) (sym ps.stride_is) ps.index_below
@@ -46,13 +46,13 @@ loop-scale-preserved c =
     let rest = drop (i + 1) ss in
     let left = c.loop-scale.left in
     let ps = parts_at ss i c.loop-scale.stride left c.loop-scale-test.true c.loop-scale.invariant.stride c.loop-scale.invariant.inside in
-    let fv = fits c.number.result c.number.ensures.within in
-    let h : (x : ℕ) → number_at c.put.new.self x ≡ (if nat_eq s.name.number x then c.number.result else number_at c.loop-scale.values x) = simp to_z-of_z at c.in_default.ensures.put in
-    let v = subst (λ (n : ℕ). c.number.result ≡ number_of s (left / n)) ps.stride_is c.number.ensures.value in
+    let fv = fits c.number_in.result c.number_in.ensures.within in
+    let h : (x : ℕ) → number_at c.put.new.self x ≡ (if nat_eq s.name.number x then c.number_in.result else number_at c.loop-scale.values x) = simp to_z-of_z at c.in_default.ensures.put in
+    let v = subst (λ (n : ℕ). c.number_in.result ≡ number_of s (left / n)) ps.stride_is c.number_in.ensures.value in
     let split = at_drop_more (λ (xs : List Scale). xs) ss i d c.loop-scale-test.true in
     let all = choice (number_at c.args.values.now) ss c.args.index in
     let inv = subst (λ (xs : List Scale). choice (number_at c.loop-scale.values) xs left ≡ all) split c.loop-scale.invariant.leads in
-    let next = next_choice s rest left c.number.result (number_at c.loop-scale.values) (number_at c.put.new.self) v h ∙ inv in
+    let next = next_choice s rest left c.number_in.result (number_at c.loop-scale.values) (number_at c.put.new.self) v h ∙ inv in
     record {
       stride = ps.stride_is;
       inside = subst (λ (n : ℕ). left % n < size rest) (sym ps.stride_is) ps.left_below;

@@ -1,6 +1,6 @@
 use Rattle.std.proofs.Common.{◌≡◌, ◌<◌, drop}
 use Rattle.linear_forms.specs.Values.{number_at}
-use Rattle.point_grid.specs.Scales.{choice, size}
+use Rattle.program_meaning.specs.Scales.{choice, size}
 use Rattle.point_grid.proofs.points.put_numbers.Given as goal
 
 -- what is left of the index, along the scales that are left, leads to the choice

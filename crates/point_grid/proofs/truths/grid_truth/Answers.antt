@@ -3,8 +3,8 @@ use Rattle.std.specs.Prelude.{IfOk, flat_map}
 use Rattle.std.specs.Int.{div_ceil}
 use Rattle.std.proofs.lemmas.Result.{IfOk-weaker}
 use Rattle.formula_store.specs.Nodes.{tree}
-use Rattle.point_grid.specs.Scales.{size}
-use Rattle.point_grid.specs.Frames.{points_of}
+use Rattle.program_meaning.specs.Scales.{size}
+use Rattle.program_meaning.specs.Frames.{points_of}
 use Rattle.point_grid.specs.Truths.{Task, IsTruthList}
 use Rattle.point_grid.proofs.Pieces.{all_truths}
 use Rattle.point_grid.proofs.truths.grid_truth.Goals as goal

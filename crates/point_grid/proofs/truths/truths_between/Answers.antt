@@ -7,7 +7,7 @@ use Rattle.formula_store.specs.declared.error.EvalStop.TheVariants.{Overflow}
 use Rattle.linear_forms.specs.Values.{number_at}
 use Rattle.qe_parallel.specs.Fanned.{AnswerAll}
 use Rattle.qe_parallel.proofs.Runs.{more}
-use Rattle.point_grid.specs.Scales.{choice}
+use Rattle.program_meaning.specs.Scales.{choice}
 use Rattle.point_grid.specs.Truths.{Task, IsTruthAt}
 use Rattle.point_grid.proofs.Choices.{chosen_again}
 use Rattle.point_grid.proofs.Pieces.{AreAt, tells_at, passes_at}

@@ -1,7 +1,7 @@
 use Rattle.std.proofs.Common.{◌≡◌, ℕ, pos}
 use Rattle.linear_forms.specs.Values.{number_at}
 use Rattle.qe_parallel.specs.Fanned.{AnswerAll}
-use Rattle.point_grid.specs.Scales.{choice}
+use Rattle.program_meaning.specs.Scales.{choice}
 use Rattle.point_grid.specs.Truths.{IsTruthAt}
 use Rattle.point_grid.proofs.truths.truths_between.Given as goal
 

@@ -1,7 +1,7 @@
 use Rattle.std.proofs.Common.{map}
-use Rattle.qe_syntax.specs.Trees.{formulas_of}
-use Rattle.problem_reading.specs.FromSessionState.{answered_tree}
-use Rattle.qe_syntax.specs.CodeTrees.{formula_tree}
+use Rattle.language_meaning.specs.Trees.{formulas_of}
+use Rattle.session_state.specs.Scripted.{answered_tree}
+use Rattle.written_syntax.specs.CodeTrees.{formula_tree}
 use Rattle.point_queries.proofs.CaseSteps.{session_named, numbers_there, cases_told, cases_refused, state_later, session_later}
 use Rattle.point_queries.proofs.cases.answer_cases.Goals as goal
 

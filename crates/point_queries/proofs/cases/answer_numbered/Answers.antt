@@ -1,9 +1,9 @@
 use Rattle.std.proofs.Common.{map}
-use Rattle.qe_syntax.specs.Trees.{formulas_of}
-use Rattle.problem_reading.specs.FromSessionState.{answered_tree}
-use Rattle.qe_syntax.specs.CodeTrees.{formula_tree}
-use Rattle.problem_reading.proofs.FromSessionState.{same_session, keeps_then}
-use Rattle.problem_reading.proofs.PlainFormulas.{answers_stay}
+use Rattle.language_meaning.specs.Trees.{formulas_of}
+use Rattle.session_state.specs.Scripted.{answered_tree}
+use Rattle.written_syntax.specs.CodeTrees.{formula_tree}
+use Rattle.session_state.proofs.StateLemmas.{same_session, keeps_then}
+use Rattle.form_commands.proofs.PlainFormulas.{answers_stay}
 use Rattle.point_queries.proofs.CaseSteps.{answered_again, refused_again}
 use Rattle.point_queries.proofs.cases.answer_numbered.Goals as goal
 

@@ -1,15 +1,18 @@
 use Rattle.std.proofs.Common.{◌≡◌, List, sym, subst, rules, map, length, Err}
 use Rattle.std.specs.Prelude.{Result, IfOk, IfErr}
-use Rattle.session_meaning.specs.FromAnswerTexts.{cases_text, AreCasesWithin}
-use Rattle.session_meaning.specs.FromPlainCases.{PrintedCase, case_seen}
-use Rattle.qe_syntax.specs.Trees.{formulas_of}
-use Rattle.qe_syntax.specs.CodeTrees.{formula_tree}
-use Rattle.session_meaning.specs.declared.line.Line.{Line}
-use Rattle.session_meaning.specs.declared.line.StatementError.{StatementError}
-use Rattle.session_meaning.specs.Reply.{IsLine}
+use Rattle.redlog_printer.specs.Within.{AreCasesWithin}
+use Rattle.logic_meaning.specs.AnswerTexts.{cases_text}
+use Rattle.reference_engine.specs.declared.cases.PrintedCase.{PrintedCase}
+use Rattle.reference_engine.specs.Case.{case_seen}
+use Rattle.language_meaning.specs.Trees.{formulas_of}
+use Rattle.written_syntax.specs.CodeTrees.{formula_tree}
+use Rattle.program_meaning.specs.declared.line.Line.{Line}
+use Rattle.program_meaning.specs.declared.line.StatementError.{StatementError}
+use Rattle.program_meaning.specs.Reply.{IsLine}
 use Rattle.point_queries.specs.CaseLists.{CasesRefuse}
-use Rattle.problem_reading.specs.FromCommandTools.{LineFault}
-use Rattle.problem_reading.specs.FromSessionState.{state_of, answered_tree}
+use Rattle.form_commands.specs.Refusals.{LineFault}
+use Rattle.session_state.specs.Keeping.{state_of}
+use Rattle.session_state.specs.Scripted.{answered_tree}
 use Rattle.point_queries.proofs.CaseSteps.{attempt_stopped, within_there, line_answered, line_refused}
 use Rattle.point_queries.proofs.cases.attempt.Goals as goal
 

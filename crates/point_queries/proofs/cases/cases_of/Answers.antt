@@ -1,19 +1,22 @@
-use Rattle.problem_reading.specs.FromSessionState.{SessionState, state_of, answered_tree}
-use Rattle.problem_reading.proofs.FromSessionState.{keeps_then}
+use Rattle.session_state.specs.declared.state.SessionState.{SessionState}
+use Rattle.session_state.specs.Keeping.{state_of}
+use Rattle.session_state.specs.Scripted.{answered_tree}
+use Rattle.session_state.proofs.StateLemmas.{keeps_then}
 use Rattle.std.proofs.Common.{◌≡◌, Bool, None, refl, sym, ap, ◌∙◌, subst, rules, map, Err}
 use Rattle.std.specs.Prelude.{Result, IfErr}
 use Rattle.std.specs.declared.vec.Vec.{Vec}
 use Rattle.std.specs.declared.alloc.Global.{Global}
-use Rattle.atom_normal.specs.Atoms.{atom_of, context_of}
-use Rattle.problem_reading.specs.FromBlockScheduler.{Limits}
+use Rattle.normal_atoms.specs.Atoms.{atom_of, context_of}
+use Rattle.form_commands.specs.FromEngineAnswers.{Limits}
 use Rattle.formula_store.specs.Nodes.{tree}
-use Rattle.session_meaning.specs.FromPlainCases.{PrintedCase, case_seen}
-use Rattle.statement_syntax.specs.Statements.{Qea}
-use Rattle.qe_syntax.specs.Trees.{formulas_of}
-use Rattle.qe_syntax.specs.CodeTrees.{formula_tree}
-use Rattle.session_meaning.specs.declared.line.StatementError.{StatementError}
-use Rattle.problem_reading.specs.FromCommandTools.{use_of, Refuses}
-use Rattle.problem_reading.proofs.ReadLemmas.{proper_items}
+use Rattle.reference_engine.specs.declared.cases.PrintedCase.{PrintedCase}
+use Rattle.reference_engine.specs.Case.{case_seen}
+use Rattle.language_meaning.specs.Statements.{Qea}
+use Rattle.language_meaning.specs.Trees.{formulas_of}
+use Rattle.written_syntax.specs.CodeTrees.{formula_tree}
+use Rattle.program_meaning.specs.declared.line.StatementError.{StatementError}
+use Rattle.form_commands.specs.Replies.{use_of, Refuses}
+use Rattle.form_commands.proofs.ReadLemmas.{proper_items}
 use Rattle.point_queries.proofs.CaseSteps.{normal_there, atoms_there, found_there, stopped_there, unread_there}
 use Rattle.point_queries.proofs.cases.cases_of.Goals as goal
 

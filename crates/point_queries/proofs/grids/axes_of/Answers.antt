@@ -1,11 +1,11 @@
 use Rattle.std.proofs.Common.{inl, refl, sym, subst₂, take, List}
-use Rattle.statement_syntax.specs.declared.grid.GridAxis.{GridAxis}
-use Rattle.statement_syntax.specs.Writable.{IsWritableAxis}
-use Rattle.formula_tree.specs.Names.{place}
-use Rattle.qe_syntax.proofs.EntryLists.{more_entries, all_at}
-use Rattle.point_grid.specs.declared.axis.Axis.{Axis}
+use Rattle.language_meaning.specs.declared.grid.GridAxis.{GridAxis}
+use Rattle.written_syntax.specs.StatementSyntaxWritable.{IsWritableAxis}
+use Rattle.logic_meaning.specs.Names.{place}
+use Rattle.written_syntax.proofs.EntryLists.{more_entries, all_at}
+use Rattle.program_meaning.specs.declared.axis.Axis.{Axis}
 use Rattle.point_grid.proofs.Lists.{some_at}
-use Rattle.session_meaning.specs.Grids.{AreAxes}
+use Rattle.program_meaning.specs.Grids.{AreAxes}
 use Rattle.point_queries.specs.GridSteps.{IsDivided, IsPastAxis}
 use Rattle.point_queries.proofs.AxisLemmas.{one_more}
 use Rattle.point_queries.proofs.grids.axes_of.Goals as goal

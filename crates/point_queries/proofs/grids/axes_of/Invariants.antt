@@ -1,8 +1,8 @@
 use Rattle.std.proofs.Common.{drop, take}
 use Rattle.std.specs.List.{AllByRecursion}
-use Rattle.statement_syntax.specs.Writable.{AreWritableAxes}
-use Rattle.formula_tree.specs.Names.{place}
-use Rattle.session_meaning.specs.Grids.{AreAxes}
+use Rattle.written_syntax.specs.StatementSyntaxWritable.{AreWritableAxes}
+use Rattle.logic_meaning.specs.Names.{place}
+use Rattle.program_meaning.specs.Grids.{AreAxes}
 use Rattle.point_queries.specs.GridSteps.{IsDivided}
 use Rattle.point_queries.proofs.grids.axes_of.Given as goal
 

@@ -1,11 +1,11 @@
 use Rattle.std.proofs.Common.{inl, inr, ⊎_elim, refl, sym, ◌∙◌, subst, rules, IsTrue, ◌↔◌, true, false, MatchBool}
 use Rattle.std.proofs.lemmas.Iterator.{YieldsList-from_slice, cases_from_any}
 use Rattle.std.proofs.lemmas.Bool.{false≢true}
-use Rattle.formula_meaning.specs.Some.{SomeOf}
-use Rattle.atom_normal.specs.Atoms.{context_of}
-use Rattle.qe_syntax.specs.Writable.{AreWritableEntries}
-use Rattle.session_meaning.specs.Points.{MeanNoPoint}
-use Rattle.session_meaning.specs.Grids.{lows, highs, steps, IsFlat}
+use Rattle.logic_meaning.specs.Some.{SomeOf}
+use Rattle.normal_atoms.specs.Atoms.{context_of}
+use Rattle.written_syntax.specs.Writable.{AreWritableEntries}
+use Rattle.program_meaning.specs.Points.{MeanNoPoint}
+use Rattle.program_meaning.specs.Grids.{lows, highs, steps, IsFlat}
 use Rattle.point_queries.proofs.AxisLemmas.{lows_proper, highs_proper, steps_proper, some_of_cases}
 use Rattle.point_queries.proofs.grids.check_axes.Goals as goal
 

@@ -1,9 +1,9 @@
 use Rattle.std.proofs.Common.{Err, List, inl, inr, ⊎_elim, sym, ap, subst}
 use Rattle.std.proofs.lemmas.Result.{err_from_is_err_and}
-use Rattle.formula_tree.specs.Names.{place}
-use Rattle.atom_normal.specs.Atoms.{context_of}
-use Rattle.point_grid.specs.declared.axis.Axis.{Axis}
-use Rattle.session_meaning.specs.Grids.{lows, AreAxes}
+use Rattle.logic_meaning.specs.Names.{place}
+use Rattle.normal_atoms.specs.Atoms.{context_of}
+use Rattle.program_meaning.specs.declared.axis.Axis.{Axis}
+use Rattle.program_meaning.specs.Grids.{lows, AreAxes}
 use Rattle.point_queries.proofs.AxisLemmas.{meant_divided, some_past, no_name_twice, all_distinct, all_rising}
 use Rattle.point_queries.proofs.GridLemmas.{meant_grid, too_many}
 use Rattle.point_queries.proofs.grids.grid_of.Goals as goal

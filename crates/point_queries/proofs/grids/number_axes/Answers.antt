@@ -1,11 +1,11 @@
 use Rattle.std.proofs.Common.{List, ◌∙◌, sym, ap, subst, take}
 use Rattle.std.specs.List.{fold}
-use Rattle.qe_syntax.proofs.EntryLists.{more_entries}
-use Rattle.statement_syntax.specs.declared.grid.GridAxis.{GridAxis}
-use Rattle.formula_tree.specs.Names.{with_name}
+use Rattle.written_syntax.proofs.EntryLists.{more_entries}
+use Rattle.language_meaning.specs.declared.grid.GridAxis.{GridAxis}
+use Rattle.logic_meaning.specs.Names.{with_name}
 use Rattle.formula_resolving.specs.Numbering.{Grows}
 use Rattle.formula_resolving.proofs.Numbered.{grows_then, grows_with}
-use Rattle.session_meaning.specs.Grids.{lows}
+use Rattle.program_meaning.specs.Grids.{lows}
 use Rattle.point_queries.specs.Asked.{entry_names}
 use Rattle.point_queries.proofs.AxisLemmas.{named_more}
 use Rattle.point_queries.proofs.grids.number_axes.Goals as goal

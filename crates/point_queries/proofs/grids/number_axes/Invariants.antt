@@ -1,8 +1,8 @@
 use Rattle.std.proofs.Common.{◌≡◌, take}
 use Rattle.std.specs.List.{fold}
-use Rattle.formula_tree.specs.Names.{with_name}
+use Rattle.logic_meaning.specs.Names.{with_name}
 use Rattle.formula_resolving.specs.Numbering.{Grows}
-use Rattle.session_meaning.specs.Grids.{lows}
+use Rattle.program_meaning.specs.Grids.{lows}
 use Rattle.point_queries.specs.Asked.{entry_names}
 use Rattle.point_queries.proofs.grids.number_axes.Given as goal
 

@@ -1,6 +1,6 @@
 use Rattle.std.proofs.Common.{◌≡◌, ◌++◌, map, take}
 use Rattle.std.specs.Prelude.{codes}
-use Rattle.session_meaning.specs.Grids.{truth_digit}
+use Rattle.program_meaning.specs.Grids.{truth_digit}
 use Rattle.point_queries.proofs.grids.text_of_truths.Given as goal
 
 -- the digits of the truths so far

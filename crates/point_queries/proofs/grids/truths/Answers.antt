@@ -1,11 +1,12 @@
 use Rattle.std.proofs.Common.{sym, subst}
 use Rattle.std.proofs.lemmas.Result.{err_from_is_err_and}
-use Rattle.statement_syntax.specs.Statements.{Grid}
-use Rattle.point_grid.specs.Frames.{Frame}
+use Rattle.language_meaning.specs.Statements.{Grid}
+use Rattle.program_meaning.specs.Frames.{Frame}
 use Rattle.point_grid.specs.FramePoints.{IsFrame}
-use Rattle.problem_reading.specs.FromSessionState.{state_of, answered_tree}
+use Rattle.session_state.specs.Keeping.{state_of}
+use Rattle.session_state.specs.Scripted.{answered_tree}
 use Rattle.point_queries.specs.Asked.{RefusesAsking}
-use Rattle.problem_reading.proofs.PlainFormulas.{answers_stay}
+use Rattle.form_commands.proofs.PlainFormulas.{answers_stay}
 use Rattle.point_queries.proofs.AskedSteps.{ids_there}
 use Rattle.point_queries.proofs.GridCauses.{grid_asks}
 use Rattle.point_queries.proofs.GridSteps.{axes_stop, names_stop, quantifier_stops, reading_stops, grid_refused, free_there, whole_there, truths_told, truths_few, truths_accepted, truths_refused}

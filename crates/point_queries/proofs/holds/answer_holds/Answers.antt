@@ -1,11 +1,12 @@
 use Rattle.std.proofs.Common.{◌≡◌, Bool, None, sym, subst, rules, Err}
 use Rattle.std.specs.Prelude.{Result, IfErr}
-use Rattle.statement_syntax.specs.Statements.{Holds}
-use Rattle.session_meaning.specs.declared.line.StatementError.{StatementError}
-use Rattle.problem_reading.specs.FromCommandTools.{use_of, Refuses}
-use Rattle.session_meaning.specs.Meaning.{meaning}
-use Rattle.session_meaning.specs.Numbered.{numbered}
-use Rattle.problem_reading.specs.FromSessionState.{state_of, answered_tree}
+use Rattle.language_meaning.specs.Statements.{Holds}
+use Rattle.program_meaning.specs.declared.line.StatementError.{StatementError}
+use Rattle.form_commands.specs.Replies.{use_of, Refuses}
+use Rattle.program_meaning.specs.Meaning.{meaning}
+use Rattle.session_state.specs.Numbered.{numbered}
+use Rattle.session_state.specs.Keeping.{state_of}
+use Rattle.session_state.specs.Scripted.{answered_tree}
 use Rattle.point_queries.specs.Truths.{RefusesTruth}
 use Rattle.point_queries.proofs.AskedSteps.{named_session, session_named, numbers_there, entries_there, state_later, session_later}
 use Rattle.point_queries.proofs.TruthSteps.{truth_refused, truth_answered}

@@ -1,10 +1,10 @@
 use Rattle.std.proofs.Common.{sym, ◌∙◌}
 use Rattle.std.proofs.lemmas.Bool.{false≢true}
 use Rattle.std.proofs.lemmas.Result.{err_from_is_err_and}
-use Rattle.problem_reading.specs.FromSessionState.{answered_tree}
-use Rattle.problem_reading.proofs.PlainFormulas.{answers_stay}
+use Rattle.session_state.specs.Scripted.{answered_tree}
+use Rattle.form_commands.proofs.PlainFormulas.{answers_stay}
 use Rattle.point_queries.proofs.AskedSteps.{ids_there, normal_there}
-use Rattle.problem_reading.proofs.FromSessionState.{keeps_then}
+use Rattle.session_state.proofs.StateLemmas.{keeps_then}
 use Rattle.point_queries.proofs.TruthSteps.{free_there, whole_there, truth_told, truth_stops, eliminated_told, eliminated_stops}
 use Rattle.point_queries.proofs.holds.truth.Goals as goal
 

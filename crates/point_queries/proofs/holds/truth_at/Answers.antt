@@ -1,7 +1,7 @@
 use Rattle.std.proofs.Common.{ap, inl, refl, sym, ◌∙◌}
 use Rattle.std.specs.Prelude.{unsigned_abs, Err}
-use Rattle.qe_syntax.specs.PointNumbers.{point_of}
-use Rattle.resolved_formulas.specs.Resolving.{at_names}
+use Rattle.written_syntax.specs.PointNumbers.{point_of}
+use Rattle.language_meaning.specs.Resolving.{at_names}
 use Rattle.formula_store.specs.Nodes.{tree}
 use Rattle.point_queries.proofs.PointLemmas.{abs_is, tells_there, passes_there}
 use Rattle.point_queries.proofs.holds.truth_at.Goals as goal

@@ -1,6 +1,6 @@
 use Rattle.std.proofs.lemmas.Result.{err_from_is_err_and}
-use Rattle.problem_reading.specs.FromSessionState.{answered_tree}
-use Rattle.problem_reading.proofs.PlainFormulas.{answers_stay}
+use Rattle.session_state.specs.Scripted.{answered_tree}
+use Rattle.form_commands.proofs.PlainFormulas.{answers_stay}
 use Rattle.point_queries.proofs.AskedLemmas.{asking_both}
 use Rattle.point_queries.proofs.AskedSteps.{point_stops, ids_there, valued_stops, no_id, no_numbers, all_asked}
 use Rattle.point_queries.proofs.points.asked.Goals as goal

@@ -4,14 +4,15 @@ use Rattle.std.specs.Bool.{MatchBool}
 use Rattle.std.specs.List.{AllByRecursion}
 use Rattle.formula_store.specs.Nodes.{tree, IsId}
 use Rattle.formula_resolving.specs.BoundIds.{answered_trees}
-use Rattle.formula_tree.specs.Names.{place}
-use Rattle.qe_syntax.specs.Holes.{command_count}
-use Rattle.qe_syntax.specs.CodeTrees.{inner_of}
-use Rattle.resolved_formulas.specs.Resolving.{IsFreeInPlace}
-use Rattle.session_meaning.specs.FromFreeNames.{HasEntryAt}
-use Rattle.session_meaning.specs.Points.{HasUnvalued}
-use Rattle.session_meaning.specs.State.{known}
-use Rattle.problem_reading.specs.FromSessionState.{state_of, answered_tree}
+use Rattle.logic_meaning.specs.Names.{place}
+use Rattle.language_meaning.specs.Holes.{command_count}
+use Rattle.written_syntax.specs.CodeTrees.{inner_of}
+use Rattle.language_meaning.specs.Resolving.{IsFreeInPlace}
+use Rattle.language_meaning.specs.Entries.{HasEntryAt}
+use Rattle.program_meaning.specs.Points.{HasUnvalued}
+use Rattle.program_meaning.specs.State.{known}
+use Rattle.session_state.specs.Keeping.{state_of}
+use Rattle.session_state.specs.Scripted.{answered_tree}
 use Rattle.point_queries.proofs.points.check_valued.Goals as goal
 
 pub is_valued-requires-clause-ids : goal.is_valued-requires-clause-ids

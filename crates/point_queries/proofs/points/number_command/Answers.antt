@@ -2,10 +2,10 @@ use Rattle.std.proofs.Common.{◌≡◌, sym, ap, ◌∙◌, subst}
 use Rattle.std.proofs.lemmas.List.Sums.{fold-append}
 use Rattle.std.specs.Prelude.{OnOk}
 use Rattle.std.specs.List.{fold}
-use Rattle.formula_tree.specs.Names.{with_name}
-use Rattle.resolved_formulas.specs.Resolving.{formula_variables}
+use Rattle.logic_meaning.specs.Names.{with_name}
+use Rattle.language_meaning.specs.Resolving.{formula_variables}
 use Rattle.formula_resolving.proofs.HoleNames.{variables_named}
-use Rattle.problem_reading.specs.FromSessionState.{answered_tree}
+use Rattle.session_state.specs.Scripted.{answered_tree}
 use Rattle.point_queries.specs.Asked.{entry_names}
 use Rattle.point_queries.proofs.points.number_command.Goals as goal
 

@@ -1,6 +1,6 @@
 use Rattle.std.proofs.Common.{◌≡◌, take}
 use Rattle.std.specs.List.{fold}
-use Rattle.formula_tree.specs.Names.{with_name}
+use Rattle.logic_meaning.specs.Names.{with_name}
 use Rattle.formula_resolving.specs.Numbering.{Grows}
 use Rattle.point_queries.specs.Asked.{entry_names}
 use Rattle.point_queries.proofs.points.number_entries.Given as goal

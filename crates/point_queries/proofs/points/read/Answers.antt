@@ -1,6 +1,7 @@
 use Rattle.std.proofs.Common.{sym, ◌∙◌, Some, None}
 use Rattle.std.proofs.lemmas.Bool.{false≢true}
-use Rattle.problem_reading.specs.FromSessionState.{state_of, answered_tree}
+use Rattle.session_state.specs.Keeping.{state_of}
+use Rattle.session_state.specs.Scripted.{answered_tree}
 use Rattle.point_queries.proofs.AskedLemmas.{unread_stops, read_clear, read_bound}
 use Rattle.point_queries.proofs.points.read.Goals as goal
 

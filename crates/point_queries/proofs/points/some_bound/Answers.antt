@@ -1,11 +1,11 @@
 use Rattle.std.proofs.Common.{refl, ◌∙◌, sym}
 use Rattle.std.proofs.lemmas.Bool.{false≢true}
 use Rattle.formula_store.specs.Nodes.{tree}
-use Rattle.qe_syntax.specs.declared.entries.PointEntry.{PointEntry}
-use Rattle.qe_syntax.proofs.EntryLists.{unfound_start, unfound_more, unfound_here, unfound_end}
-use Rattle.resolved_formulas.specs.Causes.{IsBound}
-use Rattle.session_meaning.specs.State.{known}
-use Rattle.problem_reading.specs.FromSessionState.{state_of}
+use Rattle.language_meaning.specs.declared.entries.PointEntry.{PointEntry}
+use Rattle.written_syntax.proofs.EntryLists.{unfound_start, unfound_more, unfound_here, unfound_end}
+use Rattle.language_meaning.specs.Causes.{IsBound}
+use Rattle.program_meaning.specs.State.{known}
+use Rattle.session_state.specs.Keeping.{state_of}
 use Rattle.point_queries.proofs.AskedLemmas.{some_found, none_found, some_name}
 use Rattle.point_queries.proofs.points.some_bound.Goals as goal
 

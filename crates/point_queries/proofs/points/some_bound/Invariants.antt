@@ -1,9 +1,9 @@
 use Rattle.std.proofs.Common.{drop}
-use Rattle.qe_syntax.specs.declared.entries.PointEntry.{PointEntry}
-use Rattle.qe_syntax.proofs.EntryLists.{Unfound}
-use Rattle.resolved_formulas.specs.Causes.{IsBound}
-use Rattle.session_meaning.specs.State.{known}
-use Rattle.problem_reading.specs.FromSessionState.{state_of}
+use Rattle.language_meaning.specs.declared.entries.PointEntry.{PointEntry}
+use Rattle.written_syntax.proofs.EntryLists.{Unfound}
+use Rattle.language_meaning.specs.Causes.{IsBound}
+use Rattle.program_meaning.specs.State.{known}
+use Rattle.session_state.specs.Keeping.{state_of}
 use Rattle.point_queries.proofs.points.some_bound.Given as goal
 
 -- nothing is bound to the names so far

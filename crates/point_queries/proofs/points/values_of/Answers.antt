@@ -4,10 +4,10 @@ use Rattle.std.proofs.lemmas.List.{take_all}
 use Rattle.std.specs.Int.{w128}
 use Rattle.std.specs.Prelude.{FitsSigned}
 use Rattle.linear_forms.specs.Values.{number_at}
-use Rattle.qe_syntax.specs.declared.entries.PointEntry.{PointEntry}
-use Rattle.qe_syntax.specs.PointNumbers.{point_of}
-use Rattle.qe_syntax.specs.Valued.{IsIn}
-use Rattle.qe_syntax.proofs.EntryLists.{all_at, more_entries}
+use Rattle.language_meaning.specs.declared.entries.PointEntry.{PointEntry}
+use Rattle.written_syntax.specs.PointNumbers.{point_of}
+use Rattle.written_syntax.specs.Valued.{IsIn}
+use Rattle.written_syntax.proofs.EntryLists.{all_at, more_entries}
 use Rattle.point_queries.proofs.PointLemmas.{ArePut, none_put, one_put, all_put}
 use Rattle.point_queries.proofs.points.values_of.Goals as goal
 

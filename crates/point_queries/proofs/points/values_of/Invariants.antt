@@ -1,9 +1,9 @@
 use Rattle.std.proofs.Common.{◌≡◌, take, drop}
 use Rattle.std.specs.List.{AllByRecursion}
 use Rattle.linear_forms.specs.Values.{number_at}
-use Rattle.qe_syntax.specs.declared.entries.PointEntry.{PointEntry}
-use Rattle.qe_syntax.specs.PointNumbers.{point_of}
-use Rattle.qe_syntax.specs.Valued.{IsIn}
+use Rattle.language_meaning.specs.declared.entries.PointEntry.{PointEntry}
+use Rattle.written_syntax.specs.PointNumbers.{point_of}
+use Rattle.written_syntax.specs.Valued.{IsIn}
 use Rattle.point_queries.proofs.PointLemmas.{ArePut}
 use Rattle.point_queries.proofs.points.values_of.Given as goal
 

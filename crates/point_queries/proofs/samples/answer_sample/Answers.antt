@@ -1,13 +1,14 @@
 use Rattle.std.proofs.Common.{◌≡◌, None, sym, subst, rules, Err}
 use Rattle.std.specs.Prelude.{Result, IfErr}
 use Rattle.sample_reference.specs.Seen.{sample_of}
-use Rattle.statement_syntax.specs.Statements.{Sample}
-use Rattle.session_meaning.specs.declared.line.Line.{Line}
-use Rattle.session_meaning.specs.declared.line.StatementError.{StatementError}
-use Rattle.problem_reading.specs.FromCommandTools.{use_of, Refuses}
-use Rattle.session_meaning.specs.Meaning.{meaning}
-use Rattle.session_meaning.specs.Numbered.{numbered}
-use Rattle.problem_reading.specs.FromSessionState.{state_of, answered_tree}
+use Rattle.language_meaning.specs.Statements.{Sample}
+use Rattle.program_meaning.specs.declared.line.Line.{Line}
+use Rattle.program_meaning.specs.declared.line.StatementError.{StatementError}
+use Rattle.form_commands.specs.Replies.{use_of, Refuses}
+use Rattle.program_meaning.specs.Meaning.{meaning}
+use Rattle.session_state.specs.Numbered.{numbered}
+use Rattle.session_state.specs.Keeping.{state_of}
+use Rattle.session_state.specs.Scripted.{answered_tree}
 use Rattle.point_queries.proofs.AskedSteps.{session_named, numbers_there, entries_there, state_later, session_later}
 use Rattle.point_queries.proofs.SampleSteps.{sample_refused, sample_answered}
 use Rattle.point_queries.proofs.samples.answer_sample.Goals as goal

@@ -1,11 +1,11 @@
 use Rattle.std.proofs.Common.{ap, sym, subst}
 use Rattle.std.specs.Prelude.{unsigned_abs}
-use Rattle.formula_meaning.specs.Every.{Every}
-use Rattle.atom_normal.specs.declared.atoms.Context.{Context}
-use Rattle.atom_normal.specs.Atoms.{context_of}
-use Rattle.atom_normal.specs.NormalForm.{IsNormal}
-use Rattle.qe_syntax.specs.PointNumbers.{point_of}
-use Rattle.resolved_formulas.specs.Resolving.{at_names}
+use Rattle.logic_meaning.specs.Every.{Every}
+use Rattle.normal_atoms.specs.declared.atoms.Context.{Context}
+use Rattle.normal_atoms.specs.Atoms.{context_of}
+use Rattle.logic_meaning.specs.NormalForm.{IsNormal}
+use Rattle.written_syntax.specs.PointNumbers.{point_of}
+use Rattle.language_meaning.specs.Resolving.{at_names}
 use Rattle.formula_store.specs.Nodes.{tree}
 use Rattle.point_queries.proofs.PointLemmas.{same_point, point_there}
 use Rattle.point_queries.proofs.SampleSteps.{sample_there, sample_stopped_there}

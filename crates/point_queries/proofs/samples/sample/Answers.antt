@@ -1,7 +1,7 @@
 use Rattle.std.proofs.lemmas.Result.{err_from_is_err_and}
-use Rattle.problem_reading.specs.FromSessionState.{answered_tree}
+use Rattle.session_state.specs.Scripted.{answered_tree}
 use Rattle.point_queries.proofs.AskedSteps.{normal_there}
-use Rattle.problem_reading.proofs.FromSessionState.{keeps_then}
+use Rattle.session_state.proofs.StateLemmas.{keeps_then}
 use Rattle.point_queries.proofs.SampleSteps.{sample_told, sample_stopped}
 use Rattle.point_queries.proofs.samples.sample.Goals as goal
 

@@ -3,10 +3,10 @@ use Rattle.std.specs.Prelude.{unsigned_abs}
 use Rattle.std.specs.Int.{w128}
 use Rattle.std.proofs.lemmas.Int.{to_z-of_z}
 use Rattle.exact_numbers.proofs.Casts.{fits}
-use Rattle.formula_meaning.specs.Atom.{Congruent}
-use Rattle.atom_normal.specs.Atoms.{relation_of, atom_of, IsWellFormed}
-use Rattle.atom_normal.specs.NormalForm.{normal_atom}
-use Rattle.prenex_theory.specs.Renaming.{form_named, atom_named}
+use Rattle.logic_meaning.specs.Atom.{Congruent}
+use Rattle.normal_atoms.specs.Atoms.{relation_of, atom_of, IsWellFormed}
+use Rattle.logic_meaning.specs.NormalForm.{normal_atom}
+use Rattle.logic_meaning.specs.Renaming.{form_named, atom_named}
 use Rattle.prenex_forms.specs.Named.{now_of}
 use Rattle.prenex_forms.proofs.Changed.{compare_same, congruent_same}
 use Rattle.prenex_forms.proofs.atoms.changed.Goals as goal

@@ -4,13 +4,13 @@ use Rattle.std.specs.Int.{w128}
 use Rattle.std.proofs.lemmas.Int.{to_z-of_z}
 use Rattle.exact_numbers.specs.Limit.{InLimit}
 use Rattle.exact_numbers.proofs.Casts.{fits}
-use Rattle.formula_meaning.specs.Form.{Term, coefficient, multiple}
-use Rattle.formula_meaning.proofs.Gathered.{gathered_same}
+use Rattle.logic_meaning.specs.Form.{Term, coefficient, multiple}
+use Rattle.formula_laws.proofs.Gathered.{gathered_same}
 use Rattle.linear_forms.specs.Combinations.{IsLinear}
 use Rattle.written_atoms.specs.Entries.{coefficient_at}
 use Rattle.written_atoms.proofs.EntryTerms.{within_at}
-use Rattle.prenex_theory.specs.Renaming.{form_named}
-use Rattle.prenex_theory.proofs.NamedAtoms.{named_multiple}
+use Rattle.logic_meaning.specs.Renaming.{form_named}
+use Rattle.shape_theory.proofs.NamedAtoms.{named_multiple}
 use Rattle.written_atoms.specs.Sum.{IsSumOf}
 use Rattle.prenex_forms.specs.Named.{now_of}
 use Rattle.prenex_forms.proofs.Lists.{if_ok_then}

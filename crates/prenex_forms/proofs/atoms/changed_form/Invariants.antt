@@ -1,7 +1,7 @@
 use Rattle.std.proofs.Common.{◌≡◌, ℕ, take}
-use Rattle.formula_meaning.specs.Form.{multiple}
+use Rattle.logic_meaning.specs.Form.{multiple}
 use Rattle.written_atoms.specs.Entries.{coefficient_at}
-use Rattle.prenex_theory.specs.Renaming.{terms_named}
+use Rattle.logic_meaning.specs.Renaming.{terms_named}
 use Rattle.prenex_forms.specs.Named.{now_of}
 use Rattle.prenex_forms.proofs.atoms.changed_form.Given as goal
 

@@ -1,6 +1,6 @@
 use Rattle.std.proofs.Common.{rules, ◌≡◌, Some, sym, ◌∙◌}
 use Rattle.std.specs.Prelude.{slice_get}
-use Rattle.formula_meaning.specs.Form.{Term}
+use Rattle.logic_meaning.specs.Form.{Term}
 use Rattle.prenex_forms.specs.Named.{now_of}
 use Rattle.prenex_forms.proofs.Changed.{one_stays}
 use Rattle.prenex_forms.proofs.atoms.is_changed.Goals as goal

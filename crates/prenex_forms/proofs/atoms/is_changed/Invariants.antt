@@ -1,5 +1,5 @@
 use Rattle.std.proofs.Common.{◌≡◌, take}
-use Rattle.prenex_theory.specs.Renaming.{terms_named}
+use Rattle.logic_meaning.specs.Renaming.{terms_named}
 use Rattle.prenex_forms.specs.Named.{now_of}
 use Rattle.prenex_forms.proofs.atoms.is_changed.Given as goal
 

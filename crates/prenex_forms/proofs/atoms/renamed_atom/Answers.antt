@@ -1,12 +1,12 @@
 use Rattle.std.proofs.Common.{rules, ◌≡◌, false, sym, ap, ◌∙◌, subst}
-use Rattle.formula_meaning.specs.Form.{Form}
-use Rattle.formula_meaning.specs.Formula.{One}
+use Rattle.logic_meaning.specs.Form.{Form}
+use Rattle.logic_meaning.specs.Formula.{One}
 use Rattle.linear_forms.specs.Combinations.{IsLinear}
-use Rattle.atom_normal.specs.Atoms.{context_of, atom_of}
-use Rattle.atom_normal.specs.NormalForm.{normal_atom}
-use Rattle.atom_normal.proofs.NormalLaws.{normal_stays, normal_in}
+use Rattle.normal_atoms.specs.Atoms.{context_of, atom_of}
+use Rattle.logic_meaning.specs.NormalForm.{normal_atom}
+use Rattle.normal_atoms.proofs.NormalLaws.{normal_stays, normal_in}
 use Rattle.nnf_trees.proofs.NnfEquations.{nnf-One}
-use Rattle.prenex_theory.specs.Renaming.{terms_named, atom_named}
+use Rattle.logic_meaning.specs.Renaming.{terms_named, atom_named}
 use Rattle.prenex_forms.specs.Named.{now_of}
 use Rattle.prenex_forms.proofs.Changed.{atom_stays, passes_not}
 use Rattle.prenex_forms.proofs.atoms.renamed_atom.Goals as goal

@@ -1,7 +1,7 @@
 use Rattle.std.proofs.Common.{ap, ◌∙◌}
-use Rattle.formula_meaning.specs.NegationNormal.{normal_form}
-use Rattle.formula_meaning.proofs.NormalAgain.{normal_form_again}
-use Rattle.atom_normal.specs.NormalForm.{negated_normal}
+use Rattle.logic_meaning.specs.NegationNormal.{normal_form}
+use Rattle.formula_laws.proofs.NormalAgain.{normal_form_again}
+use Rattle.logic_meaning.specs.NormalForm.{negated_normal}
 use Rattle.formula_store.specs.Nodes.{tree}
 use Rattle.prenex_forms.proofs.form.unfolded_form.Goals as goal
 

@@ -1,7 +1,7 @@
 use Rattle.std.proofs.Common.{◌≡◌, ◌≤◌, ◌+◌, ◌*◌, Bool, List, length, map, drop}
-use Rattle.formula_meaning.specs.Atom.{Mentions}
-use Rattle.formula_meaning.specs.Every.{FreeInSome}
-use Rattle.formula_meaning.specs.Sizes.{nodes, all_nodes}
+use Rattle.logic_meaning.specs.Atom.{Mentions}
+use Rattle.logic_meaning.specs.Every.{FreeInSome}
+use Rattle.logic_meaning.specs.Sizes.{nodes, all_nodes}
 use Rattle.formula_tree.specs.Trees.{members}
 use Rattle.nnf_trees.specs.Nnfs.{nnf_of, nnfs_of}
 use Rattle.prenex_forms.specs.Marks.{Marks}

@@ -1,9 +1,9 @@
 use Rattle.std.proofs.Common.{◌≡◌, ◌≤◌, ◌+◌, ◌⊎◌, ◌↔◌, ℕ, List, length, subst, sym, Some, arith, take, add-one}
 use Rattle.std.specs.Prelude.{slice_get, pos}
-use Rattle.formula_meaning.specs.Form.{Term, coefficient}
-use Rattle.formula_meaning.specs.Some.{Among}
-use Rattle.prenex_theory.proofs.AtomNames.{multiple_among}
-use Rattle.prenex_theory.proofs.NamedAtoms.{names_of, named_multiple}
+use Rattle.logic_meaning.specs.Form.{Term, coefficient}
+use Rattle.logic_meaning.specs.Some.{Among}
+use Rattle.shape_theory.proofs.AtomNames.{multiple_among}
+use Rattle.shape_theory.proofs.NamedAtoms.{names_of, named_multiple}
 use Rattle.prenex_forms.specs.Marks.{Marks}
 use Rattle.prenex_forms.proofs.Marking.{marks_as, mark_put, mark_skip, names_more, take_whole}
 use Rattle.prenex_forms.proofs.free.mark_names.Goals as goal

@@ -1,6 +1,6 @@
 use Rattle.std.proofs.Common.{take}
-use Rattle.formula_meaning.specs.Some.{Among}
-use Rattle.prenex_theory.proofs.NamedAtoms.{names_of}
+use Rattle.logic_meaning.specs.Some.{Among}
+use Rattle.shape_theory.proofs.NamedAtoms.{names_of}
 use Rattle.prenex_forms.specs.Marks.{Marks}
 use Rattle.prenex_forms.proofs.free.mark_names.Given as goal
 

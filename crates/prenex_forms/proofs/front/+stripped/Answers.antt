@@ -1,12 +1,12 @@
 use Rattle.std.proofs.Common.{rules, arith, ◌≡◌, ◌≤◌, ◌+◌, ◌∷◌, ◌++◌, [], List, map, length, ap, ◌∙◌, subst, sym}
-use Rattle.formula_meaning.specs.Formula.{also}
-use Rattle.formula_meaning.specs.Sizes.{nodes, all_nodes}
+use Rattle.logic_meaning.specs.Formula.{also}
+use Rattle.logic_meaning.specs.Sizes.{nodes, all_nodes}
 use Rattle.formula_tree.specs.Trees.{members}
 use Rattle.nnf_trees.specs.declared.nnf.Nnf.{Nnf}
 use Rattle.nnf_trees.specs.Nnfs.{nnf_of, nnfs_of, AreProper}
 use Rattle.nnf_trees.proofs.NnfEquations.{nnf-Constant, nnf-One, nnf-Quantified}
 use Rattle.nnf_trees.proofs.Pieces.{empty, itself_proper, Formulas_of}
-use Rattle.prenex_theory.specs.Blocks.{matrices}
+use Rattle.logic_meaning.specs.Blocks.{matrices}
 use Rattle.prenex_forms.specs.Places.{level_behind, place_at, placed, placed_in}
 use Rattle.prenex_forms.proofs.Lists.{one_pushed, all_pushed, on_ok_then}
 use Rattle.prenex_forms.proofs.Fronts.{constant_placed, quantified_placed, nothing_more, one_more, members_more}

@@ -1,9 +1,9 @@
 use Rattle.std.proofs.Common.{◌≡◌, ◌≤◌, ◌+◌, ◌*◌, ◌++◌, map}
-use Rattle.formula_meaning.specs.Fold.{append}
-use Rattle.formula_meaning.specs.Sizes.{nodes, all_nodes}
+use Rattle.logic_meaning.specs.Fold.{append}
+use Rattle.logic_meaning.specs.Sizes.{nodes, all_nodes}
 use Rattle.formula_tree.specs.Trees.{members}
 use Rattle.nnf_trees.specs.Nnfs.{nnf_of, nnfs_of, AreProper}
-use Rattle.prenex_theory.specs.Blocks.{matrices}
+use Rattle.logic_meaning.specs.Blocks.{matrices}
 use Rattle.prenex_forms.specs.Places.{placed_in}
 use Rattle.prenex_forms.proofs.front.+stripped.Given as goal
 

@@ -1,5 +1,5 @@
 use Rattle.std.proofs.Common.{◌≡◌, ◌+◌, suc, subst, arith}
-use Rattle.prenex_theory.specs.NewNames.{AddsNewNames}
+use Rattle.logic_meaning.specs.NewNames.{AddsNewNames}
 use Rattle.prenex_forms.proofs.FoundNames.{adds_last, starts_more}
 use Rattle.prenex_forms.proofs.new_names.add_each.Goals as goal
 

@@ -1,8 +1,8 @@
 use Rattle.std.proofs.Common.{◌<◌, ℕ}
 use Rattle.std.specs.List.{AllByRecursion}
-use Rattle.formula_meaning.specs.Some.{Among}
-use Rattle.qe_syntax.specs.Names.{IsVariable}
-use Rattle.prenex_theory.specs.NewNames.{new_text, AddsNewNames}
+use Rattle.logic_meaning.specs.Some.{Among}
+use Rattle.language_meaning.specs.Names.{IsVariable}
+use Rattle.logic_meaning.specs.NewNames.{new_text, AddsNewNames}
 use Rattle.prenex_forms.proofs.FoundNames.{StartsWith}
 use Rattle.prenex_forms.proofs.new_names.add_each.Given as goal
 

@@ -1,11 +1,11 @@
 use Rattle.std.proofs.Common.{rules, ◌≡◌, ◌<◌, ◌^◌, ◌++◌, ◌∷◌, [], ℕ, List, ap, sym, ◌∙◌, subst, arith, true, false}
 use Rattle.std.specs.Prelude.{is_none}
 use Rattle.std.specs.List.{AllByRecursion}
-use Rattle.formula_meaning.specs.Some.{Among}
-use Rattle.qe_syntax.specs.Names.{IsVariable}
+use Rattle.logic_meaning.specs.Some.{Among}
+use Rattle.language_meaning.specs.Names.{IsVariable}
 use Rattle.prenex_forms.proofs.NewVariables.{new_text_variable, one_more}
-use Rattle.formula_tree.specs.Names.{with_name}
-use Rattle.prenex_theory.specs.NewNames.{new_text, IsFirstNew}
+use Rattle.logic_meaning.specs.Names.{with_name}
+use Rattle.logic_meaning.specs.NewNames.{new_text, IsFirstNew}
 use Rattle.prenex_forms.proofs.FoundNames.{found_there, not_found, goes_last, among_front, among_last, earlier_more}
 use Rattle.prenex_forms.proofs.new_names.add_one.Goals as goal
 

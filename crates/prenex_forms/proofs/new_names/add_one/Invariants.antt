@@ -1,6 +1,6 @@
 use Rattle.std.proofs.Common.{◌≡◌, ◌<◌, ℕ}
-use Rattle.formula_meaning.specs.Some.{Among}
-use Rattle.prenex_theory.specs.NewNames.{new_text}
+use Rattle.logic_meaning.specs.Some.{Among}
+use Rattle.logic_meaning.specs.NewNames.{new_text}
 use Rattle.prenex_forms.proofs.new_names.add_one.Given as goal
 
 -- the names before this number are there

@@ -1,5 +1,5 @@
 use Rattle.std.proofs.Common.{◌≡◌, ◌-◌, suc, ◌∷◌, drop, get_or, sym, ap, ◌∙◌, arith}
-use Rattle.prenex_theory.specs.Front.{block, quantified}
+use Rattle.logic_meaning.specs.Front.{block, quantified}
 use Rattle.formula_store.specs.Nodes.{tree}
 use Rattle.formula_tree.specs.Shapes.{tree_over}
 use Rattle.formula_store.proofs.Makes.{keeps_then}

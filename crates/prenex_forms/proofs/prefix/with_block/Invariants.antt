@@ -1,7 +1,7 @@
 use Rattle.std.proofs.Common.{◌≡◌, ◌≤◌, drop, length}
 use Rattle.formula_tree.specs.Makers.{Keeps}
 use Rattle.formula_store.specs.Nodes.{IsId, tree}
-use Rattle.prenex_theory.specs.Front.{block}
+use Rattle.logic_meaning.specs.Front.{block}
 use Rattle.prenex_forms.specs.Places.{level_names}
 use Rattle.prenex_forms.proofs.prefix.with_block.Given as goal
 

@@ -1,7 +1,7 @@
 use Rattle.std.proofs.Common.{◌≡◌, ◌-◌, suc, ◌+◌, ◌∷◌, sym, ap, ◌∙◌, arith}
 use Rattle.formula_store.specs.Nodes.{tree}
 use Rattle.formula_store.proofs.Makes.{keeps_then}
-use Rattle.prenex_theory.specs.Front.{block, prefixed}
+use Rattle.logic_meaning.specs.Front.{block, prefixed}
 use Rattle.prenex_forms.specs.Places.{kind_at, level_names, levels_of}
 use Rattle.prenex_forms.proofs.Gathered.{kind_next}
 use Rattle.prenex_forms.proofs.prefix.with_prefix.Goals as goal

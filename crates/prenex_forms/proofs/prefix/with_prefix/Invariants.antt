@@ -1,7 +1,7 @@
 use Rattle.std.proofs.Common.{◌≡◌, ◌≤◌, ◌-◌}
 use Rattle.formula_tree.specs.Makers.{Keeps}
 use Rattle.formula_store.specs.Nodes.{IsId, tree}
-use Rattle.prenex_theory.specs.Front.{prefixed}
+use Rattle.logic_meaning.specs.Front.{prefixed}
 use Rattle.prenex_forms.specs.Places.{kind_at, levels_of}
 use Rattle.prenex_forms.proofs.prefix.with_prefix.Given as goal
 

@@ -1,14 +1,14 @@
 use Rattle.std.proofs.Common.{rules, ◌≡◌, ◌<◌, ℕ, length, sym, ◌∙◌, subst, nat_eq}
-use Rattle.formula_meaning.specs.Shape.{is_in}
-use Rattle.formula_meaning.specs.Tree.{Tree, IsFree, tree_names}
-use Rattle.atom_normal.specs.Atoms.{context_of}
+use Rattle.logic_meaning.specs.Shape.{is_in}
+use Rattle.logic_meaning.specs.Tree.{Tree, IsFree, tree_names}
+use Rattle.normal_atoms.specs.Atoms.{context_of}
 use Rattle.formula_store.specs.Nodes.{tree}
 use Rattle.formula_store.proofs.Makes.{keeps_then}
 use Rattle.nnf_trees.specs.Nnfs.{nnf_of}
-use Rattle.formula_meaning.specs.Within.{IsTreeWithin}
-use Rattle.prenex_theory.specs.NewNames.{AddsNewNames}
-use Rattle.prenex_theory.specs.Renaming.{new_count}
-use Rattle.prenex_theory.proofs.Whole.{free_below}
+use Rattle.formula_laws.specs.Within.{IsTreeWithin}
+use Rattle.logic_meaning.specs.NewNames.{AddsNewNames}
+use Rattle.logic_meaning.specs.Renaming.{new_count}
+use Rattle.shape_theory.proofs.Whole.{free_below}
 use Rattle.prenex_forms.specs.Chosen.{flag, CanRename, IsRenamed, Overflows}
 use Rattle.prenex_forms.specs.NegationForm.{negation_form}
 use Rattle.prenex_forms.proofs.Finished.{has_prenex_form, ready, whole_is, new_names, fits_whole, overflows_whole, finished, length_more}

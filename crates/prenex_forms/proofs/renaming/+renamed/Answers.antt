@@ -2,13 +2,13 @@ use Rattle.std.proofs.Common.{rules, arith, ◌≡◌, ◌≤◌, ◌<◌, ◌+�
 use Rattle.std.specs.Prelude.{slice_set}
 use Rattle.std.specs.declared.result.Result.TheVariants.{Err}
 use Rattle.std.proofs.lemmas.List.{at_drop_all}
-use Rattle.formula_meaning.specs.Shape.{quantified}
-use Rattle.formula_meaning.specs.Every.{Every, EveryOf}
-use Rattle.formula_meaning.specs.Sizes.{nodes, all_nodes}
-use Rattle.formula_meaning.specs.Formula.{One}
-use Rattle.formula_meaning.specs.Tree.{Tree}
-use Rattle.atom_normal.specs.declared.error.AtomError.TheVariants as error
-use Rattle.atom_normal.specs.Atoms.{context_of, atom_of, IsWellFormed}
+use Rattle.logic_meaning.specs.Shape.{quantified}
+use Rattle.logic_meaning.specs.Every.{Every, EveryOf}
+use Rattle.logic_meaning.specs.Sizes.{nodes, all_nodes}
+use Rattle.logic_meaning.specs.Formula.{One}
+use Rattle.logic_meaning.specs.Tree.{Tree}
+use Rattle.normal_atoms.specs.declared.error.AtomError.TheVariants as error
+use Rattle.normal_atoms.specs.Atoms.{context_of, atom_of, IsWellFormed}
 use Rattle.formula_tree.specs.Trees.{members}
 use Rattle.nnf_trees.specs.declared.nnf.Nnf.{Nnf}
 use Rattle.nnf_trees.specs.Nnfs.{nnf_of, nnfs_of, nnf_atoms, AreProper}

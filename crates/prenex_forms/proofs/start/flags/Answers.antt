@@ -1,6 +1,6 @@
 use Rattle.std.proofs.Common.{◌≡◌, ◌<◌, ◌↔◌, inr, ⊎_elim, ℕ, Bool, IsTrue, List, length, drop, sym, ap, ◌∙◌, subst}
 use Rattle.std.proofs.lemmas.Bool.{false≢true}
-use Rattle.formula_meaning.specs.Tree.{IsFree}
+use Rattle.logic_meaning.specs.Tree.{IsFree}
 use Rattle.nnf_trees.specs.Nnfs.{nnf_of}
 use Rattle.prenex_forms.specs.Chosen.{flag}
 use Rattle.prenex_forms.proofs.Starts.{told_free, flag_all, front_whole}

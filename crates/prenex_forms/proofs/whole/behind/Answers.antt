@@ -3,9 +3,9 @@ use Rattle.formula_store.specs.Nodes.{IsId, tree}
 use Rattle.formula_tree.specs.Makers.{IsMade}
 use Rattle.formula_store.proofs.Makes.{keeps_then}
 use Rattle.nnf_trees.specs.Nnfs.{nnf_of}
-use Rattle.prenex_theory.specs.Blocks.{blocks, matrix}
-use Rattle.prenex_theory.specs.Front.{prefixed}
-use Rattle.prenex_theory.proofs.Blocks.{length_blocks}
+use Rattle.logic_meaning.specs.Blocks.{blocks, matrix}
+use Rattle.logic_meaning.specs.Front.{prefixed}
+use Rattle.shape_theory.proofs.Blocks.{length_blocks}
 use Rattle.prenex_forms.specs.Places.{placed, levels_of}
 use Rattle.prenex_forms.proofs.Gathered.{gathered_blocks}
 use Rattle.prenex_forms.proofs.Lists.{if_ok_then}

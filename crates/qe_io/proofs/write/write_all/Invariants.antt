@@ -1,5 +1,5 @@
 use Rattle.std.proofs.Common.{◌≡◌, ◌≤◌, ◌-◌, length, take}
-use Rattle.qe_io.specs.Streams.{Took}
+use Rattle.program_meaning.specs.Streams.{Took}
 use Rattle.qe_io.proofs.write.write_all.Given as goal
 
 -- the sink took the bytes in front, and no write failed

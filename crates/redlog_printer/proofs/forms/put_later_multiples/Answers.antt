@@ -1,9 +1,9 @@
 use Rattle.std.proofs.Common.{rules, ◌≡◌, ◌<◌, ◌≤◌, ◌+◌, ◌++◌, Some, None, slice_get, length, drop, ap, ◌∙◌, subst, arith, length-append, List, ℕ}
 use Rattle.std.proofs.lemmas.Option.{slice_get_within}
 use Rattle.std.specs.List.{flat_map}
-use Rattle.formula_meaning.specs.Form.{Term}
-use Rattle.redlog_printer.specs.Text.{later_multiple}
-use Rattle.redlog_printer.specs.Writing.{text_limit}
+use Rattle.logic_meaning.specs.Form.{Term}
+use Rattle.logic_meaning.specs.Text.{later_multiple}
+use Rattle.logic_meaning.specs.Writing.{text_limit}
 use Rattle.redlog_printer.proofs.Written.{drop_at, drop_none, part_long, part_written, all_written, later_long}
 use Rattle.redlog_printer.proofs.forms.put_later_multiples.Goals as goal
 

@@ -1,6 +1,6 @@
 use Rattle.std.proofs.Common.{◌≡◌, ◌≤◌, ◌+◌, ◌-◌, ◌++◌, length, drop}
 use Rattle.std.specs.List.{flat_map}
-use Rattle.redlog_printer.specs.Text.{later_multiple}
+use Rattle.logic_meaning.specs.Text.{later_multiple}
 use Rattle.redlog_printer.proofs.forms.put_later_multiples.Given as goal
 
 -- what is written and what is left is the whole text; each multiple has taken a byte at least

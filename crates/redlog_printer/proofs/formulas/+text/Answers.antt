@@ -2,8 +2,8 @@ use Rattle.std.proofs.Common.{rules, ◌-◌, ◌<◌, ◌+◌, ◌++◌, List, 
 use Rattle.std.proofs.lemmas.Option.{slice_get_read}
 use Rattle.formula_tree.specs.declared.tree.Tree.{Tree}
 use Rattle.formula_tree.specs.Trees.{tree_of, trees_of}
-use Rattle.redlog_printer.specs.Text.{in_parentheses, is_compound, tree_text, members_text}
-use Rattle.redlog_printer.specs.Writing.{text_limit}
+use Rattle.logic_meaning.specs.Text.{in_parentheses, is_compound, tree_text, members_text}
+use Rattle.logic_meaning.specs.Writing.{text_limit}
 use Rattle.redlog_printer.proofs.Written.{members_long}
 use Rattle.redlog_printer.proofs.formulas.+text.Goals as goal
 

@@ -1,8 +1,8 @@
 use Rattle.std.proofs.Common.{◌≡◌, ◌≤◌, ◌+◌, ◌*◌, ◌++◌, length, map, drop}
-use Rattle.formula_meaning.specs.Sizes.{nodes, all_nodes}
+use Rattle.logic_meaning.specs.Sizes.{nodes, all_nodes}
 use Rattle.formula_tree.specs.Trees.{members, tree_of, trees_of}
-use Rattle.redlog_printer.specs.Text.{members_text, more_text}
-use Rattle.formula_meaning.specs.Within.{AreTreesWithin}
+use Rattle.logic_meaning.specs.Text.{members_text, more_text}
+use Rattle.formula_laws.specs.Within.{AreTreesWithin}
 use Rattle.redlog_printer.proofs.formulas.+text.Given as goal
 
 abbrev pub decreases-put_tree : goal.decreases-put_tree

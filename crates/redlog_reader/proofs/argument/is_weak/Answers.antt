@@ -1,6 +1,6 @@
 use Rattle.std.proofs.Common.{sym}
-use Rattle.qe_syntax.specs.CodeTrees.{formula_tree}
-use Rattle.statement_syntax.proofs.Constrained.{no_weak}
+use Rattle.written_syntax.specs.CodeTrees.{formula_tree}
+use Rattle.written_syntax.proofs.Constrained.{no_weak}
 use Rattle.redlog_reader.proofs.argument.is_weak.Goals as goal
 
 pub returns-in_default : goal.returns-in_default

@@ -1,4 +1,4 @@
-use Rattle.qe_syntax.specs.CodeTrees.{whole_formula}
+use Rattle.written_syntax.specs.CodeTrees.{whole_formula}
 use Rattle.redlog_reader.specs.Reader.{kind_read}
 use Rattle.redlog_reader.proofs.Items.{loop_more, loop_less, kind_less}
 use Rattle.redlog_reader.proofs.argument.listed.Goals as goal

@@ -1,5 +1,5 @@
 use Rattle.std.proofs.Common.{◌≡◌, map, length}
-use Rattle.qe_syntax.specs.CodeTrees.{whole_formula}
+use Rattle.written_syntax.specs.CodeTrees.{whole_formula}
 use Rattle.redlog_reader.specs.Reader.{items_read, kind_read}
 use Rattle.redlog_reader.proofs.Items.{onto}
 use Rattle.redlog_reader.proofs.argument.listed.Given as goal

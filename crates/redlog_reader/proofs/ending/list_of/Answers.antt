@@ -1,8 +1,8 @@
 use Rattle.std.proofs.Common.{◌≡◌, length, sym, ap, ◌∙◌}
-use Rattle.formula_meaning.specs.Formula.{And, Or}
-use Rattle.qe_syntax.specs.Holes.{over}
-use Rattle.qe_syntax.specs.CodeTrees.{whole_formula}
-use Rattle.qe_syntax.proofs.TreeEquations.{whole-And, whole-Or}
+use Rattle.logic_meaning.specs.Formula.{And, Or}
+use Rattle.language_meaning.specs.Holes.{over}
+use Rattle.written_syntax.specs.CodeTrees.{whole_formula}
+use Rattle.written_syntax.proofs.TreeEquations.{whole-And, whole-Or}
 use Rattle.redlog_reader.proofs.Lists.{many_conjuncts, many_disjuncts}
 use Rattle.redlog_reader.proofs.ending.list_of.Goals as goal
 

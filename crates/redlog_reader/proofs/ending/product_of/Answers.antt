@@ -1,7 +1,7 @@
 use Rattle.std.proofs.Common.{◌≡◌, length, sym, ap, ◌∙◌}
-use Rattle.qe_syntax.specs.Trees.{Product}
-use Rattle.qe_syntax.specs.CodeTrees.{term_tree}
-use Rattle.qe_syntax.proofs.TreeEquations.{tree-Product}
+use Rattle.language_meaning.specs.Trees.{Product}
+use Rattle.written_syntax.specs.CodeTrees.{term_tree}
+use Rattle.written_syntax.proofs.TreeEquations.{tree-Product}
 use Rattle.redlog_reader.proofs.Lists.{many_factors}
 use Rattle.redlog_reader.proofs.ending.product_of.Goals as goal
 

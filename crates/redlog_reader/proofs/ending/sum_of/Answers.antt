@@ -1,7 +1,7 @@
 use Rattle.std.proofs.Common.{◌≡◌, length, sym, ap, ◌∙◌}
-use Rattle.qe_syntax.specs.Trees.{Sum}
-use Rattle.qe_syntax.specs.CodeTrees.{term_tree}
-use Rattle.qe_syntax.proofs.TreeEquations.{tree-Sum}
+use Rattle.language_meaning.specs.Trees.{Sum}
+use Rattle.written_syntax.specs.CodeTrees.{term_tree}
+use Rattle.written_syntax.proofs.TreeEquations.{tree-Sum}
 use Rattle.redlog_reader.proofs.Lists.{many_members}
 use Rattle.redlog_reader.proofs.ending.sum_of.Goals as goal
 

@@ -1,6 +1,6 @@
 use Rattle.std.proofs.Common.{◌≡◌, length}
-use Rattle.qe_syntax.specs.CodeTrees.{whole_formula}
-use Rattle.redlog_reader.specs.Grammar.{quantified_names}
+use Rattle.written_syntax.specs.CodeTrees.{whole_formula}
+use Rattle.language_meaning.specs.Grammar.{quantified_names}
 use Rattle.redlog_reader.proofs.machine.quantified.Given as goal
 
 abbrev pub invariant-names : goal.invariant-names

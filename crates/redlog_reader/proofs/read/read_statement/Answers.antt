@@ -1,11 +1,11 @@
 use Rattle.std.proofs.Common.{◌≡◌, ◌≤◌, sym, subst, rules, arith, length, List, [], ◌∙◌}
-use Rattle.redlog_tokens.specs.declared.terminal.Terminal.{Terminal}
-use Rattle.redlog_tokens.specs.declared.level.TheConstants.{LEVEL_LIMIT}
+use Rattle.language_meaning.specs.declared.terminal.Terminal.{Terminal}
+use Rattle.language_meaning.specs.declared.level.TheConstants.{LEVEL_LIMIT}
 use Rattle.redlog_tokens.specs.Ahead.{AreTerminals}
-use Rattle.redlog_tokens.specs.Levels.{Passes}
-use Rattle.statement_syntax.specs.CodeTrees.{statement_tree}
+use Rattle.language_meaning.specs.Levels.{Passes}
+use Rattle.written_syntax.specs.StatementSyntaxCodeTrees.{statement_tree}
 use Rattle.std.specs.Prelude.{Some, None}
-use Rattle.redlog_reader.specs.declared.read.TheConstants.{BYTE_LIMIT}
+use Rattle.language_meaning.specs.declared.limit.TheConstants.{BYTE_LIMIT}
 use Rattle.redlog_reader.specs.Reader.{statement_read}
 use Rattle.redlog_reader.specs.Reading.{Refuses}
 use Rattle.redlog_reader.proofs.Whole.{deep_unread, statement_unread, spells, read_proper}

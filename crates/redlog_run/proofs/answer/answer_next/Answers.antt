@@ -1,5 +1,5 @@
 use Rattle.std.proofs.Common.{take, ◌++◌, length, sym, subst}
-use Rattle.script_splitter.specs.Pieces.{Follows}
+use Rattle.redlog_tokens.specs.Pieces.{Follows}
 use Rattle.redlog_run.proofs.Standing.{stands_fed, stands_cut}
 use Rattle.redlog_run.proofs.answer.answer_next.Goals as goal
 

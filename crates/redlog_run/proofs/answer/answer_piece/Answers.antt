@@ -1,7 +1,7 @@
 use Rattle.std.proofs.Common.{rules, ◌≡◌, ℕ, List, [], ◌∷◌, ◌++◌, Ok, refl, sym, ap, ◌∙◌, subst, append-nil}
-use Rattle.session_meaning.specs.declared.line.Line.{Line}
-use Rattle.session_meaning.specs.declared.line.Line.TheVariants as line
-use Rattle.session_meaning.specs.Reply.{Reply}
+use Rattle.program_meaning.specs.declared.line.Line.{Line}
+use Rattle.program_meaning.specs.declared.line.Line.TheVariants as line
+use Rattle.program_meaning.specs.Reply.{Reply}
 use Rattle.session_commands.specs.Seen.{state_in}
 use Rattle.redlog_run.proofs.Replies.{adds_finished, adds_line, adds_refusal, nothing_goes_on, printed_goes_on}
 use Rattle.redlog_run.proofs.answer.answer_piece.Goals as goal

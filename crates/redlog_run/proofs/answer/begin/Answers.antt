@@ -1,5 +1,5 @@
 use Rattle.std.proofs.Common.{refl, ap}
-use Rattle.session_commands.specs.FromBlockScheduler.{Limits}
+use Rattle.smtlib_front.specs.FromEngineAnswers.{Limits}
 use Rattle.redlog_run.proofs.Standing.{stands_first}
 use Rattle.redlog_run.proofs.answer.begin.Goals as goal
 

@@ -1,7 +1,7 @@
 use Rattle.std.proofs.Common.{◌≤◌, ℕ, subst}
 use Rattle.std.specs.Prelude.{Option, IfSome}
-use Rattle.command_words.specs.declared.options.Choice.TheVariants.{Workers}
-use Rattle.command_words.specs.Words.{greatest_of}
+use Rattle.program_meaning.specs.declared.options.Choice.TheVariants.{Workers}
+use Rattle.program_meaning.specs.CommandWords.{greatest_of}
 use Rattle.redlog_run.proofs.program.limits_of.Goals as goal
 
 pub returns-in-Some-workers-clause-some : goal.returns-in-Some-workers-clause-some

@@ -1,6 +1,6 @@
 use Rattle.std.proofs.Common.{rules, ◌≡◌, ℕ, List, subst}
-use Rattle.generated_scripts.specs.Generated.{generated, tally}
-use Rattle.redlog_run.specs.Run.{RunOf}
+use Rattle.program_meaning.specs.Generated.{generated, tally}
+use Rattle.program_meaning.specs.Run.{RunOf}
 use Rattle.redlog_run.proofs.program.tallied.Goals as goal
 
 pub returns : goal.returns

@@ -1,5 +1,5 @@
 use Rattle.std.proofs.Common.{sym, subst}
-use Rattle.qe_io.specs.Ends.{ends}
+use Rattle.program_meaning.specs.Ends.{ends}
 use Rattle.redlog_run.specs.Steps.{ClaimOfSmt}
 use Rattle.redlog_run.proofs.Claims.{smt_claim}
 use Rattle.redlog_run.proofs.smt.answer_smt_source.Goals as goal

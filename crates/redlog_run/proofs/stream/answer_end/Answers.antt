@@ -1,7 +1,7 @@
 use Rattle.std.proofs.Common.{rules, ◌≡◌, ℕ, List, ◌++◌, Err, sym, ap, ◌∙◌, subst}
 use Rattle.std.proofs.lemmas.Result.{err_from_is_err_and}
-use Rattle.qe_io.specs.Streams.{Took}
-use Rattle.qe_io.specs.Ends.{TookFront}
+use Rattle.program_meaning.specs.Streams.{Took}
+use Rattle.program_meaning.specs.Ends.{TookFront}
 use Rattle.qe_io.specs.declared.stop.AnswerStop.TheVariants as answer
 use Rattle.redlog_run.specs.Script.{AnswersLast}
 use Rattle.qe_io.proofs.Joined.{took_joined, front_after}

@@ -1,8 +1,8 @@
 use Rattle.std.proofs.Common.{rules, ◌≡◌, ◌+◌, ◌≤◌, Ok, Err, false, length, take, drop, sym, ap, ◌∙◌, subst, arith}
 use Rattle.std.proofs.lemmas.Result.{err_from_is_err_and}
-use Rattle.qe_io.specs.Streams.{Gave, IsAtEnd, Rose}
+use Rattle.program_meaning.specs.Streams.{Gave, IsAtEnd, Rose}
 use Rattle.qe_io.specs.declared.stop.StreamStop.TheVariants as streams
-use Rattle.qe_io.specs.Ends.{ends}
+use Rattle.program_meaning.specs.Ends.{ends}
 use Rattle.qe_io.specs.Stops.{AnswerCause}
 use Rattle.redlog_run.specs.Script.{AnswersBytes, stream_status}
 use Rattle.redlog_run.specs.Steps.{ClaimOfSource}

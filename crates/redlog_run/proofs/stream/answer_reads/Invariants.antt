@@ -1,5 +1,5 @@
 use Rattle.std.proofs.Common.{◌≡◌, ◌+◌, ◌≤◌, [], false}
-use Rattle.redlog_run.specs.Outcome.{script_limit}
+use Rattle.program_meaning.specs.Outcome.{script_limit}
 use Rattle.redlog_run.proofs.Claims.{Reading}
 use Rattle.redlog_run.proofs.stream.answer_reads.Given as goal
 

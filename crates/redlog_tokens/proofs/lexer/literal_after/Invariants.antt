@@ -1,5 +1,5 @@
 use Rattle.std.proofs.Common.{◌≡◌, drop}
-use Rattle.redlog_tokens.specs.Lexing.{value_after}
+use Rattle.language_meaning.specs.Lexing.{value_after}
 use Rattle.redlog_tokens.proofs.lexer.literal_after.Given as goal
 
 abbrev pub invariant-digits : goal.invariant-digits

@@ -1,6 +1,6 @@
 use Rattle.std.proofs.Common.{◌-◌, ◌≤◌, List, length}
-use Rattle.redlog_tokens.specs.declared.lexer.Lexeme.{Lexeme}
-use Rattle.redlog_tokens.specs.Lexing.{LexesFrom}
+use Rattle.language_meaning.specs.declared.lexer.Lexeme.{Lexeme}
+use Rattle.language_meaning.specs.Lexing.{LexesFrom}
 use Rattle.redlog_tokens.proofs.lexer.next_lexeme.Given as goal
 
 abbrev pub invariant-spaces : goal.invariant-spaces

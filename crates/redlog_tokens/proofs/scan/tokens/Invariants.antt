@@ -1,6 +1,6 @@
 use Rattle.std.proofs.Common.{◌-◌, ◌≤◌, List, ◌++◌, map, length}
-use Rattle.redlog_tokens.specs.declared.lexer.Lexeme.{Lexeme}
-use Rattle.redlog_tokens.specs.Lexing.{Lexes, LexesFrom}
+use Rattle.language_meaning.specs.declared.lexer.Lexeme.{Lexeme}
+use Rattle.language_meaning.specs.Lexing.{Lexes, LexesFrom}
 use Rattle.redlog_tokens.specs.Longest.{lexeme_of}
 use Rattle.redlog_tokens.proofs.scan.tokens.Given as goal
 

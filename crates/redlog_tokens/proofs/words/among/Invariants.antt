@@ -1,5 +1,5 @@
 use Rattle.std.proofs.Common.{◌≡◌, map, drop}
-use Rattle.redlog_tokens.specs.Terminals.{known}
+use Rattle.language_meaning.specs.Terminals.{known}
 use Rattle.redlog_tokens.specs.TerminalList.{word_pair}
 use Rattle.redlog_tokens.proofs.words.among.Given as goal
 

@@ -1,5 +1,5 @@
 use Rattle.std.proofs.Common.{sym, ap, ◌∙◌}
-use Rattle.redlog_tokens.specs.Terminals.{words, known}
+use Rattle.language_meaning.specs.Terminals.{words, known}
 use Rattle.redlog_tokens.proofs.Known.{known_filter}
 use Rattle.redlog_tokens.proofs.words.known_word.Goals as goal
 

@@ -1,6 +1,6 @@
 use Rattle.std.proofs.Common.{map}
-use Rattle.qe_syntax.specs.Trees.{formulas_of}
-use Rattle.qe_syntax.specs.CodeTrees.{formula_tree}
+use Rattle.language_meaning.specs.Trees.{formulas_of}
+use Rattle.written_syntax.specs.CodeTrees.{formula_tree}
 use Rattle.session_commands.proofs.StandingLemmas.{session_named, numbers_there, told_there, refused_there, grown_there_too}
 use Rattle.session_commands.proofs.assumptions.assume.Goals as goal
 

@@ -1,10 +1,10 @@
 use Rattle.std.proofs.Common.{rules, ◌≡◌, Err, sym, subst, map}
 use Rattle.std.specs.Prelude.{IfErr}
-use Rattle.qe_syntax.specs.Trees.{formulas_of}
-use Rattle.qe_syntax.specs.CodeTrees.{formula_tree}
-use Rattle.point_queries.specs.FromSessionState.{state_of}
-use Rattle.point_queries.specs.FromProblemReading.{AreAllRead}
-use Rattle.point_queries.proofs.FromProblemReading.{proper_items}
+use Rattle.language_meaning.specs.Trees.{formulas_of}
+use Rattle.written_syntax.specs.CodeTrees.{formula_tree}
+use Rattle.session_state.specs.Keeping.{state_of}
+use Rattle.form_commands.specs.Reading.{AreAllRead}
+use Rattle.form_commands.proofs.ReadLemmas.{proper_items}
 use Rattle.session_commands.specs.Standing.{RefusesAssumptions}
 use Rattle.session_commands.proofs.StandingLemmas.{all_unread, grown_within, answered_session, answered, refused, kept}
 use Rattle.session_commands.proofs.assumptions.assume_numbered.Goals as goal

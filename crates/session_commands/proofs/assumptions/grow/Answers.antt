@@ -1,10 +1,10 @@
 use Rattle.std.proofs.Common.{rules, ◌≡◌, subst, map}
 use Rattle.std.specs.Prelude.{IfOk, IfErr}
 use Rattle.formula_store.specs.Nodes.{tree}
-use Rattle.session_meaning.specs.Reply.{IsLine}
-use Rattle.session_meaning.specs.Standing.{standing_text}
-use Rattle.point_queries.specs.FromStandingAssumptions.{standing_trees}
-use Rattle.point_queries.specs.FromCommandTools.{LineFault}
+use Rattle.program_meaning.specs.Reply.{IsLine}
+use Rattle.program_meaning.specs.Standing.{standing_text}
+use Rattle.session_state.specs.Trees.{standing_trees}
+use Rattle.form_commands.specs.Refusals.{LineFault}
 use Rattle.session_commands.specs.Standing.{grown_by}
 use Rattle.session_commands.proofs.assumptions.grow.Goals as goal
 

@@ -1,12 +1,12 @@
 use Rattle.std.proofs.Common.{◌∙◌, sym, ap, map, take, List, get_or, refl}
 use Rattle.std.specs.List.{fold}
-use Rattle.formula_meaning.specs.Tree.{Tree}
+use Rattle.logic_meaning.specs.Tree.{Tree}
 use Rattle.formula_store.specs.declared.id.FormulaId.{FormulaId}
 use Rattle.formula_store.specs.Nodes.{tree, IsId}
-use Rattle.qe_syntax.proofs.EntryLists.{all_at, more_entries}
-use Rattle.session_meaning.specs.Standing.{with_assumption}
-use Rattle.point_queries.specs.FromStandingAssumptions.{standing_trees}
-use Rattle.point_queries.proofs.FromProblemReading.{same_at}
+use Rattle.written_syntax.proofs.EntryLists.{all_at, more_entries}
+use Rattle.program_meaning.specs.Standing.{with_assumption}
+use Rattle.session_state.specs.Trees.{standing_trees}
+use Rattle.form_commands.proofs.MadeLemmas.{same_at}
 use Rattle.session_commands.proofs.StandingLemmas.{fold_push, front_self, front_then}
 use Rattle.session_commands.proofs.assumptions.put_all.Goals as goal
 

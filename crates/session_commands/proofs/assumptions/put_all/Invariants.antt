@@ -1,8 +1,8 @@
 use Rattle.std.proofs.Common.{◌≡◌, map, take, drop}
 use Rattle.std.specs.List.{AllByRecursion, fold}
 use Rattle.formula_store.specs.Nodes.{tree, IsId}
-use Rattle.session_meaning.specs.Standing.{with_assumption}
-use Rattle.point_queries.specs.FromStandingAssumptions.{standing_trees, IsFront}
+use Rattle.program_meaning.specs.Standing.{with_assumption}
+use Rattle.session_state.specs.Trees.{standing_trees, IsFront}
 use Rattle.session_commands.proofs.assumptions.put_all.Given as goal
 
 -- the formulas so far stand behind the others

@@ -1,9 +1,10 @@
 use Rattle.std.proofs.Common.{subst}
 use Rattle.std.specs.Prelude.{IfOk, IfErr}
-use Rattle.point_queries.specs.FromSessionState.{state_of, answered_tree}
-use Rattle.point_queries.specs.FromCommandTools.{use_of, Refuses, IsFormulaAnswer}
+use Rattle.session_state.specs.Keeping.{state_of}
+use Rattle.session_state.specs.Scripted.{answered_tree}
+use Rattle.form_commands.specs.Replies.{use_of, Refuses, IsFormulaAnswer}
 use Rattle.session_commands.specs.Steps.{command_of}
-use Rattle.point_queries.proofs.FromSessionState.{keeps_itself, grows_then_grows}
+use Rattle.session_state.proofs.StateLemmas.{keeps_itself, grows_then_grows}
 use Rattle.session_commands.proofs.GivenSteps.{names_are, with_numbers, numbered_state, numbers_there, numbered_session, on_err}
 use Rattle.session_commands.proofs.formulas.answer_formula.Goals as goal
 

@@ -1,4 +1,4 @@
-use Rattle.point_queries.specs.FromSessionState.{answered_tree}
+use Rattle.session_state.specs.Scripted.{answered_tree}
 use Rattle.session_commands.proofs.Retries.{settled, again_session, again_answered, again_refused, again_grown}
 use Rattle.session_commands.proofs.formulas.answer_numbered.Goals as goal
 

@@ -1,7 +1,9 @@
 use Rattle.std.proofs.Common.{◌≡◌, inr, Err, sym, subst, rules}
 use Rattle.std.specs.Prelude.{IfErr, OnErr}
-use Rattle.point_queries.specs.FromSessionState.{state_of, GrowsState, answered_tree}
-use Rattle.point_queries.specs.FromCommandTools.{use_of}
+use Rattle.session_state.specs.Keeping.{state_of}
+use Rattle.session_state.specs.Growth.{GrowsState}
+use Rattle.session_state.specs.Scripted.{answered_tree}
+use Rattle.form_commands.specs.Replies.{use_of}
 use Rattle.session_commands.specs.Steps.{AttemptRefuses, KeepsWhereEliminated}
 use Rattle.session_commands.proofs.GivenLemmas.{fits_other}
 use Rattle.session_commands.proofs.GivenSteps.{later_within, later_members, answered_session, given_answer, given_refused, on_err}

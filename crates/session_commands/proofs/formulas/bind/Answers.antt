@@ -1,8 +1,8 @@
 use Rattle.std.proofs.Common.{sym, subst}
 use Rattle.formula_resolving.specs.BoundIds.{trees_bound}
 use Rattle.formula_store.specs.Nodes.{tree}
-use Rattle.session_meaning.specs.Causes.{HasNoRoom}
-use Rattle.point_queries.proofs.FromSessionState.{no_room}
+use Rattle.program_meaning.specs.Causes.{HasNoRoom}
+use Rattle.session_state.proofs.BindingLemmas.{no_room}
 use Rattle.session_commands.proofs.formulas.bind.Goals as goal
 
 pub unreachable-requires : goal.unreachable-requires

@@ -1,4 +1,4 @@
-use Rattle.point_queries.specs.FromSessionState.{state_of}
+use Rattle.session_state.specs.Keeping.{state_of}
 use Rattle.session_commands.proofs.Retries.{found_again}
 use Rattle.session_commands.proofs.formulas.instead.Goals as goal
 

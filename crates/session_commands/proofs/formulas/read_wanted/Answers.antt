@@ -1,14 +1,16 @@
 use Rattle.std.proofs.Common.{inl, inr, map, refl, sym, subst}
-use Rattle.formula_meaning.specs.Formula.{also}
-use Rattle.qe_syntax.specs.Writable.{AreWritableFormulas}
-use Rattle.qe_syntax.specs.Trees.{formulas_of}
-use Rattle.qe_syntax.specs.CodeTrees.{formula_tree}
-use Rattle.point_queries.specs.FromSessionState.{state_of, answered_tree}
+use Rattle.logic_meaning.specs.Formula.{also}
+use Rattle.written_syntax.specs.Writable.{AreWritableFormulas}
+use Rattle.language_meaning.specs.Trees.{formulas_of}
+use Rattle.written_syntax.specs.CodeTrees.{formula_tree}
+use Rattle.session_state.specs.Keeping.{state_of}
+use Rattle.session_state.specs.Scripted.{answered_tree}
 use Rattle.session_commands.specs.Steps.{given_trees, HasUnwantedQuantifier}
-use Rattle.point_queries.specs.FromProblemReading.{AreReadable, AreUnread, AreRead}
-use Rattle.session_meaning.specs.declared.line.StatementError.TheVariants as error
-use Rattle.point_queries.proofs.FromProblemReading.{early_readable, early_overflow, proper_items}
-use Rattle.point_queries.proofs.FromSessionState.{kept_ids, same_state}
+use Rattle.form_commands.specs.Reading.{AreReadable, AreUnread, AreRead}
+use Rattle.program_meaning.specs.declared.line.StatementError.TheVariants as error
+use Rattle.form_commands.proofs.AssumptionLemmas.{early_readable, early_overflow}
+use Rattle.form_commands.proofs.ReadLemmas.{proper_items}
+use Rattle.session_state.proofs.StateLemmas.{kept_ids, same_state}
 use Rattle.session_commands.proofs.formulas.read_wanted.Goals as goal
 
 pub read_parts-requires-clause-proper_given : goal.read_parts-requires-clause-proper_given

@@ -1,13 +1,15 @@
 use Rattle.std.proofs.Common.{◌≡◌, ℕ, List, Bool, Option, Err, length, map, refl, sym, subst, rules}
 use Rattle.std.specs.Prelude.{IfErr}
-use Rattle.atom_normal.specs.Atoms.{atom_of}
-use Rattle.formula_meaning.specs.Shape.{IsQuantifierFree}
+use Rattle.normal_atoms.specs.Atoms.{atom_of}
+use Rattle.logic_meaning.specs.Shape.{IsQuantifierFree}
 use Rattle.formula_store.specs.Nodes.{tree}
-use Rattle.point_queries.specs.FromCommandTools.{use_of, Refuses}
+use Rattle.form_commands.specs.Replies.{use_of, Refuses}
 use Rattle.session_commands.specs.Steps.{command_of, MayAsk, IsForSize}
-use Rattle.point_queries.specs.FromSessionState.{state_of, SessionState, answered_tree}
-use Rattle.point_queries.proofs.FromSessionState.{keeps_then, keeps_then_grows}
-use Rattle.point_queries.specs.FromSharedForms.{IsDistributed, HasFormNames}
+use Rattle.session_state.specs.Keeping.{state_of}
+use Rattle.session_state.specs.declared.state.SessionState.{SessionState}
+use Rattle.session_state.specs.Scripted.{answered_tree}
+use Rattle.session_state.proofs.StateLemmas.{keeps_then, keeps_then_grows}
+use Rattle.form_commands.specs.Forms.{IsDistributed, HasFormNames}
 use Rattle.session_commands.proofs.GivenSteps.{unready_refused, form_refused, read_normal, read_members, read_within, read_free, read_atoms, form_wanted, premised_there, formed_there, unformed_there, keeps_still, keeps_formed}
 use Rattle.session_commands.proofs.GivenLemmas.{unready_other, form_other}
 use Rattle.session_commands.proofs.formulas.wanted_formula.Goals as goal

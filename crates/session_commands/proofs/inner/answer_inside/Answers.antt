@@ -1,8 +1,8 @@
 use Rattle.std.proofs.Common.{◌≡◌, ◌∙◌, Err, length, map, sym, ap, subst, rules}
 use Rattle.std.specs.Prelude.{IfErr}
-use Rattle.inner_commands.specs.Order.{nest_of}
-use Rattle.inner_commands.proofs.Gathering.{no_steps}
-use Rattle.point_queries.specs.FromSessionState.{state_of}
+use Rattle.formula_resolving.specs.Order.{nest_of}
+use Rattle.formula_resolving.proofs.Gathering.{no_steps}
+use Rattle.session_state.specs.Keeping.{state_of}
 use Rattle.session_commands.specs.Inner.{AreStopped}
 use Rattle.session_commands.proofs.AskedLemmas.{inside_asked}
 use Rattle.session_commands.proofs.InnerSteps.{answering_session}

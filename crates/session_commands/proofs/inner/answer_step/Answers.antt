@@ -1,8 +1,8 @@
 use Rattle.std.proofs.Common.{sym, subst, ◌∙◌, map}
 use Rattle.std.specs.List.{AllByRecursion}
 use Rattle.formula_store.specs.Nodes.{tree}
-use Rattle.inner_commands.specs.Order.{nest_of}
-use Rattle.point_queries.specs.FromSessionState.{state_of}
+use Rattle.formula_resolving.specs.Order.{nest_of}
+use Rattle.session_state.specs.Keeping.{state_of}
 use Rattle.session_commands.specs.Inner.{IsOwn}
 use Rattle.session_commands.specs.Running.{IsStep}
 use Rattle.session_commands.proofs.InnerSteps.{answering, there_session, step_own, step_taken}

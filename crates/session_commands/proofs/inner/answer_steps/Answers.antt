@@ -1,10 +1,10 @@
 use Rattle.std.proofs.Common.{◌≡◌, ◌≢◌, ◌+◌, [], Err, length, map, sym, subst, rules, drop}
 use Rattle.std.specs.Prelude.{IfErr}
 use Rattle.formula_store.specs.Nodes.{tree}
-use Rattle.inner_commands.specs.Order.{nest_of}
-use Rattle.point_queries.specs.FromSessionState.{state_of}
-use Rattle.point_queries.proofs.FromSessionState.{grows_then_grows}
-use Rattle.session_meaning.specs.declared.line.StatementError.TheVariants as error
+use Rattle.formula_resolving.specs.Order.{nest_of}
+use Rattle.session_state.specs.Keeping.{state_of}
+use Rattle.session_state.proofs.StateLemmas.{grows_then_grows}
+use Rattle.program_meaning.specs.declared.line.StatementError.TheVariants as error
 use Rattle.session_commands.specs.Inner.{IsNumberedNest}
 use Rattle.session_commands.specs.Running.{Halts}
 use Rattle.session_commands.proofs.InnerSteps.{nests_numbers}

@@ -1,8 +1,9 @@
 use Rattle.std.proofs.Common.{◌≡◌, [], length, map, take, drop}
 use Rattle.std.specs.List.{AllByRecursion}
 use Rattle.formula_store.specs.Nodes.{tree}
-use Rattle.inner_commands.specs.Order.{nest_of, IsCounted, AreInOrder}
-use Rattle.point_queries.specs.FromSessionState.{state_of, IsSessionState, GrowsState}
+use Rattle.formula_resolving.specs.Order.{nest_of, IsCounted, AreInOrder}
+use Rattle.session_state.specs.Keeping.{state_of, IsSessionState}
+use Rattle.session_state.specs.Growth.{GrowsState}
 use Rattle.session_commands.specs.Inner.{IsOwn, IsNumberedNest}
 use Rattle.session_commands.specs.Running.{Runs}
 use Rattle.session_commands.proofs.inner.answer_steps.Given as goal

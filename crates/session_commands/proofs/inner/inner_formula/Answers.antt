@@ -1,6 +1,6 @@
-use Rattle.qe_syntax.specs.CodeTrees.{inner_of, whole_command}
-use Rattle.point_queries.specs.FromSessionState.{answered_tree}
-use Rattle.point_queries.proofs.FromSessionState.{scripted_beside}
+use Rattle.written_syntax.specs.CodeTrees.{inner_of, whole_command}
+use Rattle.session_state.specs.Scripted.{answered_tree}
+use Rattle.session_state.proofs.BesideLemmas.{scripted_beside}
 use Rattle.session_commands.proofs.InnerForms.{asks_for, has_answers}
 use Rattle.session_commands.proofs.InnerSteps.{inner_session, inner_own, inner_answered, inner_refused}
 use Rattle.session_commands.proofs.inner.inner_formula.Goals as goal

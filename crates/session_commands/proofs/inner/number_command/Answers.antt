@@ -1,10 +1,10 @@
 use Rattle.std.proofs.Common.{ap, sym, ◌∙◌}
 use Rattle.std.specs.List.{fold}
-use Rattle.formula_tree.specs.Names.{with_name}
-use Rattle.resolved_formulas.specs.Resolving.{all_variables}
-use Rattle.session_meaning.specs.Grids.{lows}
+use Rattle.logic_meaning.specs.Names.{with_name}
+use Rattle.language_meaning.specs.Resolving.{all_variables}
+use Rattle.program_meaning.specs.Grids.{lows}
 use Rattle.point_queries.specs.Asked.{entry_names}
-use Rattle.inner_commands.proofs.Texts.{ok_map}
+use Rattle.formula_resolving.proofs.Texts.{ok_map}
 use Rattle.session_commands.proofs.ItemTrees.{item_trees}
 use Rattle.session_commands.proofs.NumberLemmas.{rest_of, none_behind, entries_behind, given_behind, text_numbered}
 use Rattle.session_commands.proofs.inner.number_command.Goals as goal

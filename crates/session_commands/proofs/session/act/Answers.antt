@@ -1,6 +1,6 @@
 use Rattle.std.proofs.Common.{◌∙◌, ap, sym}
-use Rattle.statement_syntax.specs.Statements.{Say, Assign}
-use Rattle.point_queries.specs.FromSessionState.{state_of}
+use Rattle.language_meaning.specs.Statements.{Say, Assign}
+use Rattle.session_state.specs.Keeping.{state_of}
 use Rattle.session_commands.specs.Asking.{asked_action, asked_command}
 use Rattle.session_commands.proofs.AnswerLemmas.{say_answered, say_refused, formula_assigned, assign_refused}
 use Rattle.session_commands.proofs.session.act.Goals as goal

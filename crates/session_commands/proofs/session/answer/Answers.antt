@@ -1,5 +1,5 @@
 use Rattle.std.proofs.Common.{◌∙◌, ap, take, Ok}
-use Rattle.point_queries.specs.FromSessionState.{state_of}
+use Rattle.session_state.specs.Keeping.{state_of}
 use Rattle.session_commands.proofs.InnerSteps.{settled_session}
 use Rattle.session_commands.proofs.ThroughLemmas.{statement_answer, left_session, left_state}
 use Rattle.session_commands.proofs.session.answer.Goals as goal

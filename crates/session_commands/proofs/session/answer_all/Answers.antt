@@ -1,6 +1,6 @@
 use Rattle.std.proofs.Common.{◌≡◌, Err, sym, subst, rules}
 use Rattle.std.specs.Prelude.{IfErr}
-use Rattle.point_queries.specs.FromSessionState.{state_of}
+use Rattle.session_state.specs.Keeping.{state_of}
 use Rattle.session_commands.specs.Through.{IsStatementStopped}
 use Rattle.session_commands.proofs.GivenSteps.{on_err}
 use Rattle.session_commands.proofs.ThroughLemmas.{stopped_inside, answered_through, stopped_through, leaves_then}

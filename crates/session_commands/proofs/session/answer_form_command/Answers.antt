@@ -1,4 +1,4 @@
-use Rattle.point_queries.specs.FromSessionState.{HasAnswers}
+use Rattle.session_state.specs.Scripted.{HasAnswers}
 use Rattle.session_commands.proofs.AskedLemmas.{fact_of}
 use Rattle.session_commands.proofs.session.answer_form_command.Goals as goal
 

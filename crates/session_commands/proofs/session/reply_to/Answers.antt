@@ -1,7 +1,7 @@
 use Rattle.std.proofs.Common.{subst}
-use Rattle.statement_syntax.specs.CodeTrees.{statement_tree}
-use Rattle.point_queries.specs.FromCommandTools.{BindsFormula}
-use Rattle.point_queries.specs.FromSessionState.{state_of}
+use Rattle.written_syntax.specs.StatementSyntaxCodeTrees.{statement_tree}
+use Rattle.form_commands.specs.Replies.{BindsFormula}
+use Rattle.session_state.specs.Keeping.{state_of}
 use Rattle.session_commands.proofs.AskedLemmas.{acted_as}
 use Rattle.session_commands.proofs.AnswerLemmas.{reply_to, spelled_binds}
 use Rattle.session_commands.proofs.session.reply_to.Goals as goal

@@ -1,12 +1,13 @@
 use Rattle.std.proofs.Common.{ap, ap₂, refl, sym, ◌∙◌, subst, map, None}
-use Rattle.qe_syntax.specs.Trees.{formulas_of}
-use Rattle.qe_syntax.specs.CodeTrees.{term_tree, formula_tree}
-use Rattle.statement_syntax.specs.Statements.{Qea, Holds, Sample, Grid, Certify, Check, Least}
-use Rattle.qe_syntax.specs.Writable.{AreWritableFormulas}
-use Rattle.statement_syntax.specs.declared.statement.Command.TheVariants as command
-use Rattle.statement_syntax.specs.ConstraintLists.{AreWeakConstraints}
-use Rattle.point_queries.specs.FromSessionState.{state_of, answered_tree}
-use Rattle.point_queries.specs.FromCommandTools.{use_of}
+use Rattle.language_meaning.specs.Trees.{formulas_of}
+use Rattle.written_syntax.specs.CodeTrees.{term_tree, formula_tree}
+use Rattle.language_meaning.specs.Statements.{Qea, Holds, Sample, Grid, Certify, Check, Least}
+use Rattle.written_syntax.specs.Writable.{AreWritableFormulas}
+use Rattle.written_syntax.specs.declared.statement.Command.TheVariants as command
+use Rattle.written_syntax.specs.ConstraintLists.{AreWeakConstraints}
+use Rattle.session_state.specs.Keeping.{state_of}
+use Rattle.session_state.specs.Scripted.{answered_tree}
+use Rattle.form_commands.specs.Replies.{use_of}
 use Rattle.session_commands.specs.Asking.{asked_command, CanAsk}
 use Rattle.session_commands.proofs.ItemTrees.{item_trees}
 use Rattle.session_commands.proofs.AnswerLemmas.{formula_answered, query_answered, query_given_back, refused_as}

@@ -1,5 +1,5 @@
 use Rattle.std.proofs.Common.{arith, sym, ◌∙◌, rules}
-use Rattle.qe_syntax.proofs.NameSearch.{was_absent, was_known}
+use Rattle.written_syntax.proofs.NameSearch.{was_absent, was_known}
 use Rattle.smt_reader.proofs.Apart.{apart_start, apart_more, apart_known, apart_none, apart_end}
 use Rattle.smt_reader.proofs.binding.bind_apart.Goals as goal
 

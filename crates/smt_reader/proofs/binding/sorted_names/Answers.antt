@@ -1,5 +1,5 @@
 use Rattle.std.proofs.Common.{arith, sym, ◌∙◌}
-use Rattle.smt_reader.specs.Bindings.{sorted_name}
+use Rattle.smt_language.specs.Bindings.{sorted_name}
 use Rattle.smt_reader.proofs.Lists.{read_start, read_more, read_fails, read_end}
 use Rattle.smt_reader.proofs.binding.sorted_names.Goals as goal
 

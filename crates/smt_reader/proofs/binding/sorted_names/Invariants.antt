@@ -1,5 +1,5 @@
 use Rattle.std.proofs.Common.{drop}
-use Rattle.smt_reader.specs.Bindings.{sorted_name}
+use Rattle.smt_language.specs.Bindings.{sorted_name}
 use Rattle.smt_reader.proofs.Lists.{IsReadTo}
 use Rattle.smt_reader.proofs.binding.sorted_names.Given as goal
 

@@ -1,5 +1,5 @@
 use Rattle.std.proofs.Common.{sym, ◌∙◌}
-use Rattle.smt_syntax.specs.CodeTrees.{command_tree}
+use Rattle.smt_tokens.specs.CodeTrees.{command_tree}
 use Rattle.smt_reader.proofs.Lists.{not_alone}
 use Rattle.smt_reader.proofs.command.alone.Goals as goal
 

@@ -1,5 +1,5 @@
 use Rattle.std.proofs.Common.{arith, sym, ◌∙◌}
-use Rattle.smt_reader.specs.Shapes.{name_at}
+use Rattle.smt_language.specs.SpelledShapes.{name_at}
 use Rattle.smt_reader.proofs.Lists.{read_start, read_more, read_fails, read_end}
 use Rattle.smt_reader.proofs.command.names.Goals as goal
 

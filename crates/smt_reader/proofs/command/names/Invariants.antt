@@ -1,5 +1,5 @@
 use Rattle.std.proofs.Common.{drop}
-use Rattle.smt_reader.specs.Shapes.{name_at}
+use Rattle.smt_language.specs.SpelledShapes.{name_at}
 use Rattle.smt_reader.proofs.Lists.{IsReadTo}
 use Rattle.smt_reader.proofs.command.names.Given as goal
 

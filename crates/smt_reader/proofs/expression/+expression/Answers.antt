@@ -3,13 +3,13 @@ use borrow.Author.Tests.{ltb-true, ltb-false}
 use Rattle.std.proofs.lemmas.Result.{err_from_is_err_and}
 use Rattle.smt_reader.specs.declared.sexpr.SExpr.TheFolds.{the_lemmas}
 use Rattle.smt_reader.proofs.sexpr.SExpr.TheLaws.{the_size}
-use Rattle.smt_syntax.specs.CodeTrees.{expression_tree, local_tree}
-use Rattle.smt_syntax.proofs.TreeEquations.{tree-Apply, local-roll}
-use Rattle.smt_reader.specs.Expressions.{expression_of, local_at}
+use Rattle.smt_tokens.specs.CodeTrees.{expression_tree, local_tree}
+use Rattle.smt_tokens.proofs.TreeEquations.{tree-Apply, local-roll}
+use Rattle.smt_language.specs.Expressions.{expression_of, local_at}
 use Rattle.smt_reader.proofs.Lists.{read_start, read_more_in, read_fails, read_end, two_list, tail_less}
 use Rattle.std.specs.Prelude.{Some}
 use Rattle.std.specs.Option.{option_map}
-use Rattle.smt_syntax.specs.Trees.{Divisible, Let}
+use Rattle.smt_language.specs.Trees.{Divisible, Let}
 use Rattle.smt_reader.proofs.Readings.{refused_too, bound_is, leaf_first, no_bindings, quantified_none, quantified_no_names, quantified_no_body, quantified_some, local_none, local_twice, local_no_values, local_no_body, local_some, no_pair, no_name, no_value, value_is, group_tree, leaf_tree, applied_few, applied_none, applied_some, no_single}
 use Rattle.smt_reader.proofs.expression.+expression.Goals as goal
 use Rattle.smt_reader.proofs.expression.+expression.Goals.{divide-in_default-via-then-parts-lt1, divide-in_default-via-else-parts-lt1+else-parts-lt2, quantify-in_default-via-then-parts-lt2, quantify-in_default-via-else-parts-lt2+else-parts-lt3, localise-in_default-via-then-parts-lt2, localise-in_default-via-else-parts-lt2+else-parts-lt3, local_value-in_default-as_slice-via-then-as_slice-lt2, local_value-in_default-as_slice-via-else-as_slice-lt2+else-this-lt3}

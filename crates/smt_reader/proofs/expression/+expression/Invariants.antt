@@ -1,6 +1,6 @@
 use Rattle.std.proofs.Common.{drop, map, ◌*◌, ◌+◌}
-use Rattle.smt_syntax.specs.CodeTrees.{expression_tree, local_tree}
-use Rattle.smt_reader.specs.Expressions.{expression_of, local_at}
+use Rattle.smt_tokens.specs.CodeTrees.{expression_tree, local_tree}
+use Rattle.smt_language.specs.Expressions.{expression_of, local_at}
 use Rattle.smt_reader.proofs.Lists.{IsReadTo}
 use Rattle.smt_reader.proofs.expression.+expression.Given as goal
 

@@ -1,7 +1,7 @@
 use Rattle.std.proofs.Common.{◌≡◌, [], length}
 use Rattle.smt_reader.specs.Grouping.{grouped}
 use Rattle.smt_reader.specs.OpenGroups.{open_of}
-use Rattle.smt_words.specs.Faults.{kinds}
+use Rattle.smt_language.specs.Faults.{kinds}
 use Rattle.smt_reader.proofs.Grouped.{inside}
 use Rattle.smt_reader.proofs.grouping.grouped.Given as goal
 

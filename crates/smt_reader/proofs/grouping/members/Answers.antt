@@ -1,7 +1,7 @@
 use Rattle.std.proofs.Common.{sym, ◌∙◌}
 use Rattle.std.proofs.lemmas.Result.{IfOk-weaker, MatchResult-weaker}
 use Rattle.smt_reader.specs.CodeTrees.{trees_of}
-use Rattle.smt_words.specs.Faults.{kinds}
+use Rattle.smt_language.specs.Faults.{kinds}
 use Rattle.smt_reader.proofs.Grouped.{written_as}
 use Rattle.smt_reader.proofs.Opened.{kinds_first}
 use Rattle.smt_reader.proofs.Readings.{refused_too}

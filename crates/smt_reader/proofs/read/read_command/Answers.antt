@@ -1,6 +1,6 @@
 use Rattle.std.proofs.Common.{sym, ◌∙◌}
 use Rattle.std.proofs.lemmas.Result.{err_from_is_err_and}
-use Rattle.smt_words.specs.Faults.{kinds}
+use Rattle.smt_language.specs.Faults.{kinds}
 use Rattle.smt_reader.proofs.Spelling.{are_kinds, unread_as}
 use Rattle.smt_reader.proofs.read.read_command.Goals as goal
 

@@ -1,8 +1,8 @@
 use Rattle.std.proofs.Common.{ap, ◌∙◌, []}
 use Rattle.std.proofs.lemmas.Result.{MatchResult-weaker}
-use Rattle.smt_reader.specs.SExprs.{Group, written}
+use Rattle.smt_language.specs.SExprs.{Group, written}
 use Rattle.smt_reader.specs.CodeTrees.{trees_of}
-use Rattle.smt_words.specs.Faults.{kinds}
+use Rattle.smt_language.specs.Faults.{kinds}
 use Rattle.smt_reader.proofs.Readings.{refused_too}
 use Rattle.smt_reader.proofs.Spelling.{no_command}
 use Rattle.smt_reader.proofs.read.said.Goals as goal

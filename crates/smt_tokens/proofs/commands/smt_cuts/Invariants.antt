@@ -1,8 +1,8 @@
 use Rattle.std.proofs.Common.{◌-◌, ◌≤◌, List, ◌++◌, length}
-use Rattle.smt_tokens.specs.declared.token.SmtCut.{SmtCut}
-use Rattle.smt_tokens.specs.declared.token.SmtLexeme.{SmtLexeme}
+use Rattle.smt_language.specs.declared.token.SmtCut.{SmtCut}
+use Rattle.smt_language.specs.declared.token.SmtLexeme.{SmtLexeme}
 use Rattle.smt_tokens.specs.Fronts.{LexesFrom}
-use Rattle.smt_tokens.specs.Commands.{AreCommands}
+use Rattle.smt_language.specs.Commands.{AreCommands}
 use Rattle.smt_tokens.specs.Begun.{GoesOn, open_inside}
 use Rattle.smt_tokens.proofs.commands.smt_cuts.Given as goal
 

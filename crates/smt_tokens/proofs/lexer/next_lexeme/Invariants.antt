@@ -1,5 +1,5 @@
 use Rattle.std.proofs.Common.{◌-◌, ◌≤◌, List, length}
-use Rattle.smt_tokens.specs.declared.token.SmtLexeme.{SmtLexeme}
+use Rattle.smt_language.specs.declared.token.SmtLexeme.{SmtLexeme}
 use Rattle.smt_tokens.specs.Fronts.{LexesFrom}
 use Rattle.smt_tokens.proofs.lexer.next_lexeme.Given as goal
 

@@ -1,6 +1,6 @@
 use Rattle.std.proofs.Common.{◌-◌, ◌≤◌, List, ◌++◌, length}
-use Rattle.smt_tokens.specs.declared.token.SmtLexeme.{SmtLexeme}
-use Rattle.smt_tokens.specs.Lexing.{Lexes}
+use Rattle.smt_language.specs.declared.token.SmtLexeme.{SmtLexeme}
+use Rattle.smt_language.specs.Lexing.{Lexes}
 use Rattle.smt_tokens.specs.Fronts.{LexesFrom}
 use Rattle.smt_tokens.proofs.scan.lexemes.Given as goal
 

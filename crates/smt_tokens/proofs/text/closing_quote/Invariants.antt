@@ -1,5 +1,5 @@
 use Rattle.std.proofs.Common.{◌≡◌, ◌≤◌, ◌-◌, drop, length}
-use Rattle.smt_tokens.specs.Lexing.{closing_quote}
+use Rattle.smt_language.specs.Lexing.{closing_quote}
 use Rattle.smt_tokens.proofs.text.closing_quote.Given as goal
 
 abbrev pub invariant-bytes : goal.invariant-bytes

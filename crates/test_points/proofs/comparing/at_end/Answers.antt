@@ -1,11 +1,11 @@
 use Rattle.std.proofs.Common.{◌≡◌, ℕ, true, sym, ap, ◌∙◌, subst, Err, unsigned_abs}
 use Rattle.std.proofs.Math.IntN.{ℤ, pos}
-use Rattle.formula_meaning.specs.Form.{Form, coefficient, without}
-use Rattle.formula_meaning.specs.Combining.{CombinePasses}
-use Rattle.elimination_reference.specs.FromLinearForms.{IsCombination}
-use Rattle.elimination_reference.proofs.FromAtomNormal.{ok_map}
+use Rattle.logic_meaning.specs.Form.{Form, coefficient, without}
+use Rattle.logic_meaning.specs.Combining.{CombinePasses}
+use Rattle.linear_forms.specs.Combinations.{IsCombination}
+use Rattle.normal_atoms.proofs.Stepped.{ok_map}
 use Rattle.test_points.specs.declared.verdict.Verdict.{Verdict}
-use Rattle.elimination_reference.specs.FromAtomNormal.{context_of}
+use Rattle.normal_atoms.specs.Atoms.{context_of}
 use Rattle.test_points.specs.Substituted.{ended, ended_within}
 use Rattle.test_points.proofs.Ended.{always_within, never_within, held_tree, held_within, held_refused, end_refused, passed_over}
 use Rattle.test_points.proofs.comparing.at_end.Goals as goal

@@ -1,8 +1,8 @@
 use Rattle.std.proofs.Common.{◌≡◌, [], rules, ap, sym, ◌∙◌, subst, All, map}
 use Rattle.std.proofs.lemmas.List.Elements.{All-from_recursion, recursion_from_All}
 use Rattle.indexmap.specs.IndexSet.{insert_all}
-use Rattle.formula_meaning.specs.Answer.{same_place}
-use Rattle.formula_meaning.proofs.Same.{place_same}
+use Rattle.logic_meaning.specs.Answer.{same_place}
+use Rattle.formula_laws.proofs.Same.{place_same}
 use Rattle.test_points.specs.Points.{place_of, IsPointOf}
 use Rattle.test_points.proofs.SamePoints.{point_eq, points_agree}
 use Rattle.test_points.proofs.DistinctLists.{inserted_is_distinct, each_inserted}

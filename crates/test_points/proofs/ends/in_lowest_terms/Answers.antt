@@ -2,9 +2,9 @@ use Rattle.std.proofs.Common.{◌≡◌, ◌∙◌, ap, ap₂, unsigned_abs, int
 use Rattle.std.proofs.Math.IntN.{ℤ, pos}
 use Rattle.std.proofs.lemmas.Int.{ints}
 use Rattle.exact_numbers.proofs.Casts.{read_back}
-use Rattle.elimination_reference.specs.FromLinearForms.{quotient}
-use Rattle.elimination_reference.specs.FromEliminationTheory.{divisor_of, form_over}
-use Rattle.elimination_reference.proofs.FromEliminationTheory.{natural}
+use Rattle.logic_meaning.specs.Reduction.{quotient}
+use Rattle.logic_meaning.specs.FieldsPoints.{divisor_of, form_over}
+use Rattle.elimination_theory.proofs.LowestTerms.{natural}
 use Rattle.test_points.specs.Points.{place_at}
 use Rattle.test_points.proofs.Lowest.{quotient_is_over}
 use Rattle.test_points.proofs.ends.in_lowest_terms.Goals as goal

@@ -1,8 +1,8 @@
 use Rattle.std.proofs.Common.{[], ◌∷◌, sym, ap, ◌∙◌, subst, All, map, append-nil}
 use Rattle.std.specs.Option.{option_to_list, IfSome}
 use Rattle.std.proofs.lemmas.List.Elements.{All-push}
-use Rattle.elimination_reference.specs.FromEliminationTheory.{infinity_of, atom_points}
-use Rattle.elimination_reference.specs.FromAtomNormal.{atom_of}
+use Rattle.logic_meaning.specs.FieldsPoints.{infinity_of, atom_points}
+use Rattle.normal_atoms.specs.Atoms.{atom_of}
 use Rattle.test_points.specs.Points.{place_of, IsPointOf}
 use Rattle.test_points.proofs.Loops.{places_more}
 use Rattle.test_points.proofs.fields.field_points.Goals as goal

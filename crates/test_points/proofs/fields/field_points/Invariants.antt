@@ -1,6 +1,6 @@
 use Rattle.std.proofs.Common.{◌≡◌, ◌∷◌, All, map, take, flat_map}
-use Rattle.elimination_reference.specs.FromEliminationTheory.{infinity_of, atom_points}
-use Rattle.elimination_reference.specs.FromAtomNormal.{atom_of}
+use Rattle.logic_meaning.specs.FieldsPoints.{infinity_of, atom_points}
+use Rattle.normal_atoms.specs.Atoms.{atom_of}
 use Rattle.test_points.specs.Points.{place_of, IsPointOf}
 use Rattle.test_points.proofs.fields.field_points.Given as goal
 

@@ -2,8 +2,9 @@ use Rattle.std.proofs.Common.{◌∙◌, refl, sym, subst, arith, ap, List, Vec,
 use Rattle.std.proofs.Math.IntN.{ℤ, neg_ℤ}
 use Rattle.exact_numbers.specs.Limit.{InLimit}
 use Rattle.exact_numbers.proofs.Casts.{read_back}
-use Rattle.formula_meaning.specs.Form.{Term}
-use Rattle.elimination_reference.specs.FromLinearForms.{VarId, term_of, terms_of}
+use Rattle.logic_meaning.specs.Form.{Term}
+use Rattle.linear_forms.specs.Linear.{term_of, terms_of}
+use Rattle.logic_meaning.specs.declared.form.VarId.{VarId}
 use Rattle.test_points.proofs.Forms.{terms_skip, terms_keep, terms_done, times_within, some_term}
 use Rattle.test_points.proofs.parts.other_terms.Goals as goal
 use Rattle.test_points.proofs.parts.other_terms.Goals.{in-Some+then-name-x+in_ok-push, in-Some+else-name-x, in_default}

@@ -1,6 +1,6 @@
 use Rattle.std.proofs.Common.{◌≡◌, take}
-use Rattle.formula_meaning.specs.Form.{others}
-use Rattle.elimination_reference.specs.FromLinearForms.{terms_of}
+use Rattle.logic_meaning.specs.Form.{others}
+use Rattle.linear_forms.specs.Linear.{terms_of}
 use Rattle.test_points.proofs.Forms.{signed_terms}
 use Rattle.test_points.proofs.parts.other_terms.Given as goal
 

@@ -2,7 +2,7 @@ use Rattle.std.proofs.Common.{◌∙◌, sym, ap, subst, if◌then◌else◌}
 use Rattle.std.proofs.Math.IntN.{ℤ, neg_ℤ}
 use Rattle.exact_numbers.specs.Limit.{InLimit}
 use Rattle.exact_numbers.proofs.Casts.{read_back}
-use Rattle.elimination_reference.specs.FromLinearForms.{IsLinear}
+use Rattle.linear_forms.specs.Combinations.{IsLinear}
 use Rattle.test_points.proofs.Forms.{rest_is, rest_linear}
 use Rattle.test_points.proofs.parts.rest.Goals as goal
 

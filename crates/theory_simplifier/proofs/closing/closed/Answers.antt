@@ -1,8 +1,8 @@
 use Rattle.std.proofs.Common.{rules, ◌≡◌, ◌++◌, Some, map, sym, ap, subst, ◌∙◌}
 use Rattle.std.specs.List.{AllByRecursion}
-use Rattle.formula_meaning.specs.Fold.{from_pieces}
-use Rattle.simplified_formulas.specs.Pass.{close}
-use Rattle.simplified_formulas.specs.AtomsFirst.{ones}
+use Rattle.logic_meaning.specs.Fold.{from_pieces}
+use Rattle.shape_theory.specs.Pass.{close}
+use Rattle.logic_meaning.specs.AtomsFirst.{ones}
 use Rattle.formula_tree.specs.Trees.{members}
 use Rattle.formula_store.specs.Nodes.{tree, IsId}
 use Rattle.theory_simplifier.specs.Parts.{parts_of, HasIds}

@@ -1,6 +1,6 @@
 use Rattle.std.proofs.Common.{sym, ap, ◌∙◌}
-use Rattle.formula_meaning.specs.Formula.{One}
-use Rattle.atom_normal.specs.Atoms.{atom_of}
+use Rattle.logic_meaning.specs.Formula.{One}
+use Rattle.normal_atoms.specs.Atoms.{atom_of}
 use Rattle.formula_tree.specs.Shapes.{tree_over}
 use Rattle.formula_tree.proofs.Decided.{same_atom}
 use Rattle.formula_store.specs.Nodes.{tree}

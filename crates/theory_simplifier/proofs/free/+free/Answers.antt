@@ -1,5 +1,5 @@
 use Rattle.std.proofs.Common.{sym, ◌∙◌, arith}
-use Rattle.simplified_formulas.specs.AtomKit.{atom_kit}
+use Rattle.shape_theory.specs.AtomKit.{atom_kit}
 use Rattle.formula_store.specs.Nodes.{tree, IsId}
 use Rattle.formula_store.proofs.Marked.{all_at}
 use Rattle.theory_simplifier.proofs.FreeMembers.{nodes_at, none_more, some_here}

@@ -4,8 +4,8 @@ use Rattle.std.proofs.lemmas.Int.{to_z-of_z}
 use Rattle.std.proofs.Math.IntN.{ℤ}
 use Rattle.exact_numbers.specs.Division.{DividesAll}
 use Rattle.exact_numbers.proofs.Divisibility.{divides_zero}
-use Rattle.formula_meaning.specs.Form.{Form}
-use Rattle.linear_forms.specs.Terms.{coefficients}
+use Rattle.logic_meaning.specs.Form.{Form}
+use Rattle.logic_meaning.specs.Terms.{coefficients}
 use Rattle.theory_simplifier.specs.VariableParts.{number_from}
 use Rattle.theory_simplifier.proofs.SameParts.{undivided_part}
 use Rattle.theory_simplifier.proofs.part.divided_number.Goals as goal

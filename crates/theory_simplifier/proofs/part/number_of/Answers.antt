@@ -2,7 +2,7 @@ use Rattle.std.proofs.Common.{rules, ◌≡◌, ◌+◌, ℕ, List, drop, sym, a
 use Rattle.std.proofs.Math.IntN.{ℤ}
 use Rattle.std.specs.Int.{w128}
 use Rattle.std.proofs.lemmas.Int.{to_z-of_z}
-use Rattle.formula_meaning.specs.Form.{Term}
+use Rattle.logic_meaning.specs.Form.{Term}
 use Rattle.theory_simplifier.specs.VariableParts.{mixed, number_from, sign_of, magnitude}
 use Rattle.theory_simplifier.proofs.Staying.{no_term}
 use Rattle.theory_simplifier.proofs.PartNumbers.{number_read}

@@ -1,8 +1,8 @@
 use Rattle.std.proofs.Common.{◌≡◌, ap, ◌∙◌}
 use Rattle.std.specs.Int.{w128}
 use Rattle.std.proofs.lemmas.Int.{to_z-of_z}
-use Rattle.formula_meaning.specs.Form.{Form}
-use Rattle.linear_forms.specs.Reduction.{quotient, quotients}
+use Rattle.logic_meaning.specs.Form.{Form}
+use Rattle.logic_meaning.specs.Reduction.{quotient, quotients}
 use Rattle.theory_simplifier.specs.VariableParts.{number_from}
 use Rattle.theory_simplifier.proofs.SameParts.{divided_terms}
 use Rattle.theory_simplifier.proofs.part.quotient_number.Goals as goal

@@ -1,8 +1,8 @@
 use Rattle.std.proofs.Common.{◌≡◌, [], map, take}
-use Rattle.formula_meaning.specs.Formula.{none}
-use Rattle.atom_normal.specs.Atoms.{context_of}
-use Rattle.simplified_formulas.specs.AtomKit.{atom_kit}
-use Rattle.simplified_formulas.specs.Pass.{Open, with_atom_first}
+use Rattle.logic_meaning.specs.Formula.{none}
+use Rattle.normal_atoms.specs.Atoms.{context_of}
+use Rattle.shape_theory.specs.AtomKit.{atom_kit}
+use Rattle.shape_theory.specs.Pass.{Open, with_atom_first}
 use Rattle.formula_store.specs.Nodes.{tree}
 use Rattle.theory_simplifier.specs.Known.{known_atoms}
 use Rattle.theory_simplifier.specs.Parts.{parts_of, IsListOf, HasIds}

@@ -1,8 +1,8 @@
 use Rattle.std.proofs.Common.{map, ◌∙◌, arith}
-use Rattle.atom_normal.specs.Atoms.{context_of}
-use Rattle.atom_merging.specs.Computed.{IsNormalWithin}
-use Rattle.simplified_formulas.specs.AtomKit.{atom_kit}
-use Rattle.simplified_formulas.specs.Pass.{with_piece}
+use Rattle.normal_atoms.specs.Atoms.{context_of}
+use Rattle.normal_atoms.specs.Computed.{IsNormalWithin}
+use Rattle.shape_theory.specs.AtomKit.{atom_kit}
+use Rattle.shape_theory.specs.Pass.{with_piece}
 use Rattle.formula_store.specs.Nodes.{tree}
 use Rattle.theory_simplifier.specs.Known.{known_atoms}
 use Rattle.theory_simplifier.specs.Parts.{parts_of}

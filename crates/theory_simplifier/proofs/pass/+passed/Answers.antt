@@ -1,10 +1,10 @@
 use Rattle.std.proofs.Common.{◌≡◌, ◌≤◌, map, get_or, sym, ap, subst, ◌∙◌, arith}
-use Rattle.formula_meaning.specs.Sizes.{nodes, all_nodes}
-use Rattle.atom_normal.specs.Atoms.{context_of}
-use Rattle.atom_merging.specs.Computed.{IsNormalWithin}
-use Rattle.simplified_formulas.specs.AtomKit.{atom_kit}
-use Rattle.simplified_formulas.specs.Pass.{pass}
-use Rattle.simplified_formulas.specs.Simplifiable.{IsSimplifiable}
+use Rattle.logic_meaning.specs.Sizes.{nodes, all_nodes}
+use Rattle.normal_atoms.specs.Atoms.{context_of}
+use Rattle.normal_atoms.specs.Computed.{IsNormalWithin}
+use Rattle.shape_theory.specs.AtomKit.{atom_kit}
+use Rattle.shape_theory.specs.Pass.{pass}
+use Rattle.shape_theory.specs.Simplifiable.{IsSimplifiable}
 use Rattle.formula_tree.specs.Shapes.{tree_over}
 use Rattle.formula_tree.specs.Trees.{members}
 use Rattle.formula_store.specs.Nodes.{tree, IsId}

@@ -1,6 +1,6 @@
 use Rattle.std.proofs.Common.{◌≡◌, ◌+◌, ◌*◌, map, take}
-use Rattle.formula_meaning.specs.Sizes.{nodes, all_nodes}
-use Rattle.atom_normal.specs.Atoms.{context_of}
+use Rattle.logic_meaning.specs.Sizes.{nodes, all_nodes}
+use Rattle.normal_atoms.specs.Atoms.{context_of}
 use Rattle.formula_tree.specs.Makers.{Keeps}
 use Rattle.formula_tree.specs.Trees.{members}
 use Rattle.formula_store.specs.Nodes.{tree, IsId}

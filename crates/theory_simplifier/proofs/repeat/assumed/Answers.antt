@@ -1,10 +1,10 @@
 use Rattle.std.proofs.Common.{◌≡◌, [], ◌∷◌, ◌++◌, map, sym, ap, subst, ◌∙◌}
-use Rattle.formula_meaning.specs.declared.junction.Junction.TheVariants.{Conjunction}
-use Rattle.atom_normal.specs.Atoms.{atom_of}
+use Rattle.logic_meaning.specs.declared.junction.Junction.TheVariants.{Conjunction}
+use Rattle.normal_atoms.specs.Atoms.{atom_of}
 use Rattle.theory_simplifier.specs.declared.known.Frame.TheVariants.{Beside}
 use Rattle.theory_simplifier.specs.Known.{known_atoms, AreNormalFrames}
-use Rattle.atom_normal.proofs.Meaning.{all_within}
-use Rattle.simplified_formulas.proofs.Limited.{assumable}
+use Rattle.normal_atoms.proofs.Meaning.{all_within}
+use Rattle.shape_theory.proofs.Limited.{assumable}
 use Rattle.theory_simplifier.proofs.Assuming.{assumed_atoms}
 use Rattle.theory_simplifier.proofs.repeat.assumed.Goals as goal
 

@@ -1,8 +1,8 @@
 use Rattle.std.proofs.Common.{◌≡◌, ℕ, ◌<◌, ◌≤◌, min, sym, ap, subst, ◌∙◌, arith}
-use Rattle.formula_meaning.specs.Sizes.{nodes}
-use Rattle.atom_normal.specs.Atoms.{context_of}
-use Rattle.simplified_formulas.specs.AtomKit.{atom_kit}
-use Rattle.simplified_formulas.specs.Pass.{pass, simplified}
+use Rattle.logic_meaning.specs.Sizes.{nodes}
+use Rattle.normal_atoms.specs.Atoms.{context_of}
+use Rattle.shape_theory.specs.AtomKit.{atom_kit}
+use Rattle.shape_theory.specs.Pass.{pass, simplified}
 use Rattle.formula_store.specs.Facts.{most_nodes}
 use Rattle.formula_store.specs.Nodes.{tree}
 use Rattle.theory_simplifier.specs.Known.{known_atoms}

@@ -1,9 +1,9 @@
 use Rattle.std.proofs.Common.{◌≡◌, ◌<◌}
-use Rattle.formula_meaning.specs.Sizes.{nodes}
-use Rattle.atom_normal.specs.Atoms.{context_of}
-use Rattle.simplified_formulas.specs.AtomKit.{atom_kit}
-use Rattle.simplified_formulas.specs.Pass.{simplified}
-use Rattle.simplified_formulas.specs.Simplifiable.{IsSimplifiable}
+use Rattle.logic_meaning.specs.Sizes.{nodes}
+use Rattle.normal_atoms.specs.Atoms.{context_of}
+use Rattle.shape_theory.specs.AtomKit.{atom_kit}
+use Rattle.shape_theory.specs.Pass.{simplified}
+use Rattle.shape_theory.specs.Simplifiable.{IsSimplifiable}
 use Rattle.formula_tree.specs.Makers.{Keeps}
 use Rattle.formula_store.specs.Facts.{most_nodes}
 use Rattle.formula_store.specs.Nodes.{tree, IsId}

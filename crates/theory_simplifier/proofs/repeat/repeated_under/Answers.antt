@@ -1,4 +1,4 @@
-use Rattle.atom_normal.specs.Atoms.{context_of}
+use Rattle.normal_atoms.specs.Atoms.{context_of}
 use Rattle.theory_simplifier.proofs.repeat.repeated_under.Goals as goal
 
 pub repeated-requires-clause-known : goal.repeated-requires-clause-known

@@ -1,21 +1,21 @@
 use Rattle.std.proofs.Common.{◌≡◌, ◌≤◌, ◌<◌, ℕ, List, length, map, sym, subst}
-use Rattle.formula_meaning.specs.Every.{Every}
-use Rattle.formula_meaning.specs.Some.{EachOf}
-use Rattle.formula_meaning.specs.Sizes.{nodes}
-use Rattle.formula_meaning.specs.Tree.{Tree, IsFree}
-use Rattle.atom_normal.specs.Atoms.{context_of, atom_of}
-use Rattle.atom_normal.specs.NormalForm.{IsNormal}
-use Rattle.simplified_formulas.specs.Measure.{size, atom_measure}
-use Rattle.simplified_formulas.specs.Orderly.{IsOrderly}
-use Rattle.simplified_formulas.specs.Trees.{IsReduced}
-use Rattle.simplified_formulas.specs.Simplifiable.{IsSimplifiable, AreAssumable, EquivalentUnder, simplified_under}
-use Rattle.simplified_formulas.proofs.TreeLaws.{keeps_truth, is_reduced, keeps_shape, brings_no_name, brings_no_node, brings_no_atom}
-use Rattle.simplified_texts.proofs.Longer.{no_longer}
-use Rattle.simplified_texts.specs.FromRedlogPrinter.{tree_text}
-use Rattle.formula_meaning.specs.Within.{IsAtomWithin}
+use Rattle.logic_meaning.specs.Every.{Every}
+use Rattle.logic_meaning.specs.Some.{EachOf}
+use Rattle.logic_meaning.specs.Sizes.{nodes}
+use Rattle.logic_meaning.specs.Tree.{Tree, IsFree}
+use Rattle.normal_atoms.specs.Atoms.{context_of, atom_of}
+use Rattle.logic_meaning.specs.NormalForm.{IsNormal}
+use Rattle.logic_meaning.specs.Measure.{size, atom_measure}
+use Rattle.shape_theory.specs.Orderly.{IsOrderly}
+use Rattle.logic_meaning.specs.Trees.{IsReduced}
+use Rattle.shape_theory.specs.Simplifiable.{IsSimplifiable, AreAssumable, EquivalentUnder, simplified_under}
+use Rattle.shape_theory.proofs.TreeLaws.{keeps_truth, is_reduced, keeps_shape, brings_no_name, brings_no_node, brings_no_atom}
+use Rattle.shape_theory.proofs.Longer.{no_longer}
+use Rattle.logic_meaning.specs.Text.{tree_text}
+use Rattle.formula_laws.specs.Within.{IsAtomWithin}
 use Rattle.formula_store.specs.Nodes.{tree}
-use Rattle.atom_normal.proofs.Meaning.{all_within}
-use Rattle.simplified_formulas.proofs.Limited.{assumable, simplifiable}
+use Rattle.normal_atoms.proofs.Meaning.{all_within}
+use Rattle.shape_theory.proofs.Limited.{assumable, simplifiable}
 use Rattle.formula_store.proofs.Numbers.{numbers_are_within}
 use Rattle.theory_simplifier.proofs.Assuming.{orderly_normal, every_normal}
 use Rattle.theory_simplifier.proofs.repeat.simplify.Goals as goal

@@ -2,9 +2,9 @@ use Rattle.std.proofs.Common.{rules, ◌≡◌, ◌+◌, ℕ, nat_eq, IsTrue, No
 use Rattle.std.specs.HashMap.{get}
 use Rattle.std.specs.HashSet.{contains}
 use Rattle.std.proofs.lemmas.List.{take_more}
-use Rattle.formula_meaning.specs.Tree.{Tree}
-use Rattle.atom_normal.specs.Atoms.{context_of}
-use Rattle.atom_merging.specs.Computed.{IsNormalWithin}
+use Rattle.logic_meaning.specs.Tree.{Tree}
+use Rattle.normal_atoms.specs.Atoms.{context_of}
+use Rattle.normal_atoms.specs.Computed.{IsNormalWithin}
 use Rattle.formula_store.specs.declared.id.FormulaId.{FormulaId}
 use Rattle.formula_store.specs.Nodes.{tree}
 use Rattle.theory_simplifier.specs.Unchanged.{AreSeen}

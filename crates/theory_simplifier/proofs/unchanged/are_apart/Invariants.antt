@@ -1,7 +1,7 @@
 use Rattle.std.proofs.Common.{map, take, nat_eq}
 use Rattle.std.specs.HashMap.{get}
 use Rattle.std.specs.HashSet.{contains}
-use Rattle.atom_normal.specs.Atoms.{context_of}
+use Rattle.normal_atoms.specs.Atoms.{context_of}
 use Rattle.formula_store.specs.Nodes.{tree}
 use Rattle.theory_simplifier.specs.Unchanged.{AreSeen}
 use Rattle.theory_simplifier.proofs.unchanged.are_apart.Given as goal

@@ -1,6 +1,6 @@
 use Rattle.std.proofs.Common.{List, map, refl, ap, ◌∙◌, subst}
-use Rattle.formula_meaning.specs.declared.junction.Junction.TheVariants.{Conjunction, Disjunction}
-use Rattle.atom_normal.specs.Atoms.{context_of}
+use Rattle.logic_meaning.specs.declared.junction.Junction.TheVariants.{Conjunction, Disjunction}
+use Rattle.normal_atoms.specs.Atoms.{context_of}
 use Rattle.formula_tree.specs.Shapes.{tree_over}
 use Rattle.formula_store.specs.declared.id.FormulaId.{FormulaId}
 use Rattle.formula_store.specs.Nodes.{tree}

@@ -1,5 +1,5 @@
 use Rattle.std.proofs.Common.{◌≡◌, ◌+◌, ℕ, List, drop, sym, ◌∙◌, subst, arith}
-use Rattle.formula_meaning.specs.Form.{Term}
+use Rattle.logic_meaning.specs.Form.{Term}
 use Rattle.theory_simplifier.specs.Unchanged.{key_from}
 use Rattle.theory_simplifier.proofs.Staying.{key_read, no_term}
 use Rattle.theory_simplifier.proofs.unchanged.key_of.Goals as goal

@@ -1,13 +1,13 @@
 use Rattle.std.proofs.Common.{◌≡◌, ◌<◌, ◌++◌, [], ◌∷◌, Some, map, sym, ap, ◌∙◌, subst, arith}
 use Rattle.std.specs.List.{AllByRecursion}
-use Rattle.formula_meaning.specs.Fold.{pieces_of, put_together}
+use Rattle.logic_meaning.specs.Fold.{pieces_of, put_together}
 use Rattle.formula_tree.specs.Trees.{members}
 use Rattle.formula_tree.specs.Shapes.{ids_of, tree_over}
 use Rattle.formula_tree.proofs.Shapes.{all_listed, all_map}
 use Rattle.formula_store.specs.declared.id.FormulaId.{FormulaId}
 use Rattle.formula_store.specs.Nodes.{tree, IsId}
 use Rattle.formula_store.proofs.Marked.{all_joined}
-use Rattle.nnf_substitution.proofs.FromNnfTrees.{append_none, members_put, itself_put}
+use Rattle.nnf_trees.proofs.Pieces.{append_none, members_put, itself_put}
 use Rattle.virtual_subst.proofs.folding.gather.Goals as goal
 
 pub returns-in-Nothing : goal.returns-in-Nothing

@@ -1,11 +1,11 @@
 use Rattle.std.proofs.Common.{rules, ◌≡◌, ℕ, zero, suc, ◌<◌, ◌+◌, true, List, [], ◌∷◌, length, map, get_or, drop, refl, ap, arith, add-one, drop-cons, sym, subst, if◌then◌else◌, Some, None}
 use Rattle.std.proofs.Math.ListN.{drop_of_length-le}
 use Rattle.std.specs.List.{AllByRecursion}
-use Rattle.formula_meaning.specs.Fold.{all_pieces, put_together, pieces_of}
+use Rattle.logic_meaning.specs.Fold.{all_pieces, put_together, pieces_of}
 use Rattle.formula_tree.specs.Trees.{members}
 use Rattle.formula_store.specs.declared.id.FormulaId.{FormulaId}
 use Rattle.formula_store.specs.Nodes.{tree, IsId}
-use Rattle.nnf_substitution.proofs.FromNnfTrees.{one_more, all_put}
+use Rattle.nnf_trees.proofs.Pieces.{one_more, all_put}
 use Rattle.virtual_subst.specs.Shared.{made_of}
 use Rattle.virtual_subst.proofs.folding.gathered.Goals as goal
 

@@ -1,6 +1,6 @@
 use Rattle.std.proofs.Common.{◌≡◌, Some, map, drop}
 use Rattle.std.specs.List.{AllByRecursion}
-use Rattle.formula_meaning.specs.Fold.{all_pieces, put_together}
+use Rattle.logic_meaning.specs.Fold.{all_pieces, put_together}
 use Rattle.formula_tree.specs.Trees.{members}
 use Rattle.formula_store.specs.Nodes.{tree, IsId}
 use Rattle.virtual_subst.specs.Shared.{made_of}

@@ -1,14 +1,14 @@
 use Rattle.std.proofs.Common.{rules, ◌<◌, List, Some, map, length, sym, ap, ◌∙◌}
 use Rattle.std.proofs.lemmas.Result.{IfOk-weaker}
-use Rattle.formula_meaning.specs.Fold.{joined, from_pieces}
-use Rattle.formula_meaning.specs.Formula.{And, Or}
+use Rattle.logic_meaning.specs.Fold.{joined, from_pieces}
+use Rattle.logic_meaning.specs.Formula.{And, Or}
 use Rattle.formula_tree.specs.declared.shape.Shape.TheVariants as shape
 use Rattle.formula_tree.specs.Makers.{IsMade}
 use Rattle.formula_tree.specs.Shapes.{tree_over}
 use Rattle.formula_tree.specs.Trees.{members}
 use Rattle.formula_store.specs.declared.id.FormulaId.{FormulaId}
 use Rattle.formula_store.specs.Nodes.{tree, IsId}
-use Rattle.nnf_substitution.proofs.FromNnfTrees.{two_pieces}
+use Rattle.nnf_trees.proofs.Pieces.{two_pieces}
 use Rattle.virtual_subst.proofs.folding.whole.Goals as goal
 
 pub returns-in-Conjunction-clause-made : goal.returns-in-Conjunction-clause-made

@@ -1,10 +1,10 @@
 use Rattle.std.proofs.Common.{◌≡◌, inl, List, [], ◌∷◌, get_or, take, ap, sym, ◌∙◌, subst, arith}
 use Rattle.std.proofs.lemmas.List.{take_all}
 use Rattle.std.specs.List.{AllByRecursion}
-use Rattle.formula_meaning.specs.Plain.{IsPlain}
-use Rattle.formula_meaning.specs.Tree.{Tree}
-use Rattle.formula_meaning.specs.Equivalence.{InContext}
-use Rattle.atom_normal.specs.Atoms.{context_of}
+use Rattle.logic_meaning.specs.Plain.{IsPlain}
+use Rattle.logic_meaning.specs.Tree.{Tree}
+use Rattle.formula_laws.specs.Equivalence.{InContext}
+use Rattle.normal_atoms.specs.Atoms.{context_of}
 use Rattle.formula_tree.specs.Shapes.{AllIds, ids_of}
 use Rattle.formula_tree.proofs.Shapes.{listed_all}
 use Rattle.formula_store.specs.declared.id.FormulaId.{FormulaId}
@@ -12,7 +12,7 @@ use Rattle.formula_store.specs.Order.{itself}
 use Rattle.formula_store.proofs.Makes.{keeps_then}
 use Rattle.formula_store.proofs.Marked.{all_on}
 use Rattle.formula_store.proofs.Before.{each_id, members_before, among_all}
-use Rattle.nnf_substitution.specs.Placed.{all_within}
+use Rattle.nnf_trees.specs.Placed.{all_within}
 use Rattle.test_points.specs.Points.{place_of}
 use Rattle.virtual_subst.specs.Shared.{Held, IsNodePut, Stops, Table, made_of}
 use Rattle.virtual_subst.proofs.Copied.{IsCopied, truths_stay, copied_now, copied_later, put_before, node_before}

@@ -1,12 +1,12 @@
 use Rattle.std.proofs.Common.{◌≡◌, ◌++◌, length, take, ap, sym, ◌∙◌, subst, arith}
 use Rattle.std.proofs.Math.Seq.{take-length}
-use Rattle.formula_meaning.specs.Plain.{IsPlain}
-use Rattle.formula_meaning.specs.Tree.{Tree}
-use Rattle.formula_meaning.specs.Equivalence.{InContext}
-use Rattle.atom_normal.specs.Atoms.{context_of}
+use Rattle.logic_meaning.specs.Plain.{IsPlain}
+use Rattle.logic_meaning.specs.Tree.{Tree}
+use Rattle.formula_laws.specs.Equivalence.{InContext}
+use Rattle.normal_atoms.specs.Atoms.{context_of}
 use Rattle.formula_store.specs.Layers.{all}
 use Rattle.formula_store.specs.Nodes.{tree}
-use Rattle.nnf_substitution.specs.Placed.{put, all_within}
+use Rattle.nnf_trees.specs.Placed.{put, all_within}
 use Rattle.test_points.specs.Points.{place_of}
 use Rattle.virtual_subst.specs.Shared.{Stops}
 use Rattle.virtual_subst.proofs.Copied.{order_stays}

@@ -1,10 +1,10 @@
 use Rattle.std.proofs.Common.{◌≡◌, false, subst}
 use Rattle.std.specs.Prelude.{IfErr}
-use Rattle.formula_meaning.specs.Some.{SomeOf}
-use Rattle.formula_meaning.specs.Tree.{Tree}
-use Rattle.atom_normal.specs.Atoms.{context_of}
+use Rattle.logic_meaning.specs.Some.{SomeOf}
+use Rattle.logic_meaning.specs.Tree.{Tree}
+use Rattle.normal_atoms.specs.Atoms.{context_of}
 use Rattle.formula_store.proofs.Makes.{keeps_then}
-use Rattle.nnf_substitution.specs.Placed.{all_within}
+use Rattle.nnf_trees.specs.Placed.{all_within}
 use Rattle.test_points.specs.declared.points.TestPoint.{TestPoint}
 use Rattle.test_points.specs.Points.{place_of}
 use Rattle.virtual_subst.specs.declared.error.SubstError.TheVariants.{Overflow}

@@ -1,8 +1,8 @@
 use Rattle.std.proofs.Common.{map, take}
-use Rattle.atom_normal.specs.Atoms.{context_of}
+use Rattle.normal_atoms.specs.Atoms.{context_of}
 use Rattle.formula_tree.specs.Makers.{AreMade, Keeps}
 use Rattle.formula_store.specs.Nodes.{tree, IsId, Front}
-use Rattle.nnf_substitution.specs.Placed.{put}
+use Rattle.nnf_trees.specs.Placed.{put}
 use Rattle.test_points.specs.Points.{place_of}
 use Rattle.virtual_subst.proofs.taking.put_each.Given as goal
 

@@ -1,7 +1,7 @@
 use Rattle.std.proofs.Common.{rules, ◌≡◌, ◌≤◌, List, [], ◌∷◌, ◌++◌, map, length, sym, ap, ◌∙◌, subst, append_assoc}
 use Rattle.std.proofs.lemmas.List.{map-append}
 use Rattle.std.specs.List.{AllByRecursion}
-use Rattle.formula_meaning.specs.Tree.{Tree}
+use Rattle.logic_meaning.specs.Tree.{Tree}
 use Rattle.formula_tree.specs.Makers.{IsMade, AreMade}
 use Rattle.formula_store.specs.declared.id.FormulaId.{FormulaId}
 use Rattle.formula_store.specs.Changes.{Change, tree_on}

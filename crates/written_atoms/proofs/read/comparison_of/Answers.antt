@@ -1,5 +1,5 @@
 use Rattle.std.proofs.Common.{subst}
-use Rattle.atom_normal.specs.Atoms.{context_of}
+use Rattle.normal_atoms.specs.Atoms.{context_of}
 use Rattle.written_atoms.specs.Atom.{IsCompared}
 use Rattle.written_atoms.proofs.AtomsRead.{comparison_read, compared_proper, none_told}
 use Rattle.written_atoms.proofs.read.comparison_of.Goals as goal

@@ -1,5 +1,5 @@
 use Rattle.std.proofs.Common.{subst}
-use Rattle.atom_normal.specs.Atoms.{context_of}
+use Rattle.normal_atoms.specs.Atoms.{context_of}
 use Rattle.written_atoms.specs.Atom.{IsCongruenceMade}
 use Rattle.written_atoms.proofs.AtomsRead.{congruence_read, made_proper, none_told}
 use Rattle.written_atoms.proofs.read.congruence_of.Goals as goal

@@ -5,7 +5,7 @@ use Rattle.std.proofs.lemmas.Int.{to_z-of_z}
 use Rattle.std.proofs.lemmas.Result.{IfOk-weaker}
 use Rattle.exact_numbers.specs.Frac.{Frac}
 use Rattle.exact_numbers.proofs.Casts.{fits}
-use Rattle.atom_normal.specs.Atoms.{context_of}
+use Rattle.normal_atoms.specs.Atoms.{context_of}
 use Rattle.written_atoms.specs.declared.rational.Rational.{Rational}
 use Rattle.written_atoms.specs.Atom.{IsCongruenceMade}
 use Rattle.written_atoms.proofs.AtomsRead.{congruence_made}

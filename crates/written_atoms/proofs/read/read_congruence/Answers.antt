@@ -1,6 +1,6 @@
 use Rattle.std.proofs.lemmas.Result.{IfOk-weaker}
-use Rattle.qe_syntax.specs.CodeTrees.{term_tree}
-use Rattle.formula_tree.specs.Names.{place}
+use Rattle.written_syntax.specs.CodeTrees.{term_tree}
+use Rattle.logic_meaning.specs.Names.{place}
 use Rattle.written_atoms.proofs.read.read_congruence.Goals as goal
 
 pub returns : goal.returns

@@ -1,15 +1,15 @@
 use Rattle.std.proofs.Common.{List, map, Some, IfOk, ap, sym, ◌∙◌, subst, arith}
-use Rattle.atom_normal.specs.Atoms.{context_of}
+use Rattle.normal_atoms.specs.Atoms.{context_of}
 use Rattle.std.specs.Prelude.{option_map}
 use Rattle.std.proofs.lemmas.Result.{IfOk-weaker}
-use Rattle.qe_syntax.specs.Proper.{IsProperTerm, AreProperTerms}
-use Rattle.qe_syntax.specs.Trees.{TermTree, terms_of}
-use Rattle.qe_syntax.specs.CodeTrees.{term_tree}
-use Rattle.qe_syntax.specs.declared.tree.Term.{Term}
-use Rattle.qe_syntax.proofs.EntryLists.{rest_at, none_left}
-use Rattle.qe_syntax.proofs.TermParts.{quotient_is, power_is, negative_is}
-use Rattle.resolved_formulas.specs.RationalForms.{constant_form, formed}
-use Rattle.formula_tree.specs.Names.{place}
+use Rattle.written_syntax.specs.Proper.{IsProperTerm, AreProperTerms}
+use Rattle.language_meaning.specs.Trees.{TermTree, terms_of}
+use Rattle.written_syntax.specs.CodeTrees.{term_tree}
+use Rattle.written_syntax.specs.declared.tree.Term.{Term}
+use Rattle.written_syntax.proofs.EntryLists.{rest_at, none_left}
+use Rattle.written_syntax.proofs.TermParts.{quotient_is, power_is, negative_is}
+use Rattle.language_meaning.specs.RationalForms.{constant_form, formed}
+use Rattle.logic_meaning.specs.Names.{place}
 use Rattle.resolved_formulas.proofs.LowestForms.{form_is_lowest}
 use Rattle.written_atoms.specs.Rational.{Shows, rational_of}
 use Rattle.written_atoms.specs.Term.{IsTermRead}

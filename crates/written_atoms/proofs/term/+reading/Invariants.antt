@@ -1,9 +1,9 @@
 use Rattle.std.proofs.Common.{drop, map}
-use Rattle.atom_normal.specs.Atoms.{context_of}
-use Rattle.qe_syntax.specs.Proper.{AreProperTerms}
-use Rattle.qe_syntax.specs.Trees.{terms_of}
-use Rattle.qe_syntax.specs.CodeTrees.{term_tree}
-use Rattle.formula_tree.specs.Names.{place}
+use Rattle.normal_atoms.specs.Atoms.{context_of}
+use Rattle.written_syntax.specs.Proper.{AreProperTerms}
+use Rattle.language_meaning.specs.Trees.{terms_of}
+use Rattle.written_syntax.specs.CodeTrees.{term_tree}
+use Rattle.logic_meaning.specs.Names.{place}
 use Rattle.written_atoms.proofs.TermSizes.{term_size, terms_size}
 use Rattle.written_atoms.proofs.Readings.{SumLeft, ProductLeft}
 use Rattle.written_atoms.proofs.term.+reading.Given as goal

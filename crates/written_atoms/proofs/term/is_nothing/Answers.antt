@@ -1,5 +1,5 @@
 use Rattle.std.proofs.Common.{ap, ◌∙◌}
-use Rattle.qe_syntax.specs.Trees.{Number}
+use Rattle.language_meaning.specs.Trees.{Number}
 use Rattle.written_atoms.proofs.TermSizes.{number_literal}
 use Rattle.written_atoms.proofs.term.is_nothing.Goals as goal
 

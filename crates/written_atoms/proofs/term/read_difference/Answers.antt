@@ -1,8 +1,8 @@
 use Rattle.std.proofs.Common.{sym, subst}
-use Rattle.atom_normal.specs.Atoms.{context_of}
-use Rattle.qe_syntax.specs.Trees.{TermTree}
-use Rattle.qe_syntax.specs.CodeTrees.{term_tree}
-use Rattle.formula_tree.specs.Names.{place}
+use Rattle.normal_atoms.specs.Atoms.{context_of}
+use Rattle.language_meaning.specs.Trees.{TermTree}
+use Rattle.written_syntax.specs.CodeTrees.{term_tree}
+use Rattle.logic_meaning.specs.Names.{place}
 use Rattle.written_atoms.specs.declared.term.ReadTerm.{ReadTerm}
 use Rattle.written_atoms.specs.Term.{IsTermRead, IsDifferenceRead}
 use Rattle.written_atoms.proofs.Nothing.{nothing_taken}

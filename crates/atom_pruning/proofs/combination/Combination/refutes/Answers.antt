@@ -1,8 +1,8 @@
 use Rattle.std.proofs.Common.{List, map, sym, subst}
-use Rattle.farkas_cert.specs.declared.constraint.Constraint.{Constraint}
-use Rattle.farkas_theory.specs.Meeting.{MeetsAll}
-use Rattle.farkas_theory.proofs.Refutes.{refutes}
-use Rattle.farkas_cert.specs.Constraints.{constraint_of}
+use Rattle.certificates.specs.declared.constraint.Constraint.{Constraint}
+use Rattle.linear_theory.specs.Meeting.{MeetsAll}
+use Rattle.linear_theory.proofs.Refutes.{refutes}
+use Rattle.certificates.specs.Constraints.{constraint_of}
 use Rattle.atom_pruning.proofs.combination.Combination.refutes.Goals as goal
 
 pub returns-in-Ok : goal.returns-in-Ok

@@ -1,8 +1,8 @@
 use Rattle.std.proofs.Common.{ℕ, List, [], ◌∷◌, ◌++◌, map, sym, subst}
-use Rattle.formula_meaning.specs.Point.{Point}
-use Rattle.farkas_theory.specs.Constraints.{Constraint}
-use Rattle.farkas_theory.specs.Meeting.{Meets, MeetsAll}
-use Rattle.farkas_cert.specs.Constraints.{constraint_of}
+use Rattle.logic_meaning.specs.Point.{Point}
+use Rattle.logic_meaning.specs.Constraints.{Constraint}
+use Rattle.linear_theory.specs.Meeting.{Meets, MeetsAll}
+use Rattle.certificates.specs.Constraints.{constraint_of}
 use Rattle.atom_pruning.specs.declared.combination.Combination.{Combination}
 use Rattle.atom_pruning.proofs.question.Question.combination.Goals as goal
 use Rattle.atom_pruning.proofs.question.Question.combination.Goals.{then-multiplier-ne0+in-Some+in_ok-add, else-multiplier-ne0}

@@ -1,7 +1,7 @@
 use Rattle.std.proofs.Common.{ℕ, map}
-use Rattle.formula_meaning.specs.Point.{Point}
-use Rattle.farkas_theory.specs.Meeting.{MeetsAll}
-use Rattle.farkas_cert.specs.Constraints.{constraint_of}
+use Rattle.logic_meaning.specs.Point.{Point}
+use Rattle.linear_theory.specs.Meeting.{MeetsAll}
+use Rattle.certificates.specs.Constraints.{constraint_of}
 use Rattle.atom_pruning.specs.Asked.{asked_of, MeetsMarked}
 use Rattle.atom_pruning.proofs.question.Question.combination.Given as goal
 

@@ -1,6 +1,6 @@
 use Rattle.std.proofs.Common.{◌≡◌, ◌≤◌, List, ◌++◌, length, vec_len}
-use Rattle.formula_meaning.specs.Context.{Context as Theory}
-use Rattle.formula_meaning.specs.Atom.{Atom as Meant}
+use Rattle.logic_meaning.specs.Context.{Context as Theory}
+use Rattle.logic_meaning.specs.Atom.{Atom as Meant}
 use Rattle.atom_pruning.specs.declared.rows.AtomRows.{AtomRows}
 use Rattle.atom_pruning.specs.Rows.{AreRows}
 use Rattle.atom_pruning.specs.Kept.{marked}

@@ -1,7 +1,7 @@
 use Rattle.std.proofs.Common.{◌≡◌, ◌∷◌, [], List, false, get_or, refl, ap, sym, subst, ◌∙◌, arith}
-use Rattle.formula_meaning.specs.Formula.{Yes, No, One}
-use Rattle.formula_meaning.specs.Tree.{Tree}
-use Rattle.atom_normal.specs.Atoms.{context_of, atom_of}
+use Rattle.logic_meaning.specs.Formula.{Yes, No, One}
+use Rattle.logic_meaning.specs.Tree.{Tree}
+use Rattle.normal_atoms.specs.Atoms.{context_of, atom_of}
 use Rattle.formula_tree.specs.Shapes.{tree_over}
 use Rattle.formula_store.specs.Nodes.{tree}
 use Rattle.atom_pruning.specs.declared.rows.AtomRows.{AtomRows}

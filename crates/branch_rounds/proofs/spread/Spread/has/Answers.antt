@@ -1,6 +1,6 @@
 use Rattle.std.proofs.Common.{◌≡◌, ◌<◌, length, sym, ap, ◌∙◌, subst, arith}
 use Rattle.std.proofs.lemmas.Option.{slice_get_within, get_or_from_slice_get}
-use Rattle.formula_meaning.specs.Some.{SomeOf}
+use Rattle.logic_meaning.specs.Some.{SomeOf}
 use Rattle.branch_rounds.specs.Branches.{Seen, IsAlike}
 use Rattle.branch_rounds.proofs.Places.{some_there}
 use Rattle.branch_rounds.proofs.spread.Spread.has.Goals as goal

@@ -1,5 +1,5 @@
 use Rattle.std.proofs.Common.{rules, ◌≡◌, ◌++◌, [], ◌∷◌, Option, Some, map, subst}
-use Rattle.atom_normal.specs.Atoms.{context_of, atom_of}
+use Rattle.normal_atoms.specs.Atoms.{context_of, atom_of}
 use Rattle.formula_store.specs.declared.id.FormulaId.{FormulaId}
 use Rattle.formula_store.specs.Nodes.{tree}
 use Rattle.test_points.specs.Points.{place_of}

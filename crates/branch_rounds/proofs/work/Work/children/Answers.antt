@@ -1,11 +1,11 @@
 use Rattle.std.proofs.Common.{rules, ◌≡◌, ◌<◌, ◌++◌, length, List, [], ◌∷◌, map, take, sym, subst, arith, ◌∙◌, ap, get_or}
 use Rattle.std.proofs.lemmas.List.{map_more, take_all}
-use Rattle.formula_meaning.specs.Answer.{Place}
-use Rattle.atom_normal.specs.Atoms.{context_of, atom_of}
+use Rattle.logic_meaning.specs.Answer.{Place}
+use Rattle.normal_atoms.specs.Atoms.{context_of, atom_of}
 use Rattle.formula_tree.specs.Makers.{AreMade}
 use Rattle.formula_store.specs.Nodes.{tree, IsId}
 use Rattle.formula_store.proofs.Makes.{keeps_then}
-use Rattle.virtual_subst.specs.FromNnfSubstitution.{put}
+use Rattle.nnf_trees.specs.Placed.{put}
 use Rattle.test_points.specs.declared.points.TestPoint.{TestPoint}
 use Rattle.test_points.specs.Points.{place_of}
 use Rattle.case_theory.specs.Children.{AreChildren}

@@ -1,6 +1,6 @@
 use Rattle.std.proofs.Common.{map, sym, subst}
-use Rattle.elimination_reference.specs.Theorems.{IsTidy}
-use Rattle.atom_normal.specs.Atoms.{context_of, atom_of}
+use Rattle.elimination_theory.specs.Theorems.{IsTidy}
+use Rattle.normal_atoms.specs.Atoms.{context_of, atom_of}
 use Rattle.formula_store.proofs.Makes.{keeps_then}
 use Rattle.test_points.specs.Points.{place_of}
 use Rattle.formula_store.specs.Nodes.{tree}

@@ -1,5 +1,5 @@
-use Rattle.atom_normal.specs.Atoms.{context_of}
-use Rattle.elimination_reference.proofs.Tidy.{tidy_in}
+use Rattle.normal_atoms.specs.Atoms.{context_of}
+use Rattle.elimination_theory.proofs.Tidy.{tidy_in}
 use Rattle.formula_store.specs.Nodes.{tree}
 use Rattle.branch_rounds.proofs.work.Work.put_at_points.Goals as goal
 

@@ -1,14 +1,14 @@
 use Rattle.std.proofs.Common.{rules, ◌≡◌, suc, ◌<◌, List, [], ◌∷◌, ◌++◌, length, sym, ap, ◌∙◌, subst, inl, inr, ⊎_elim}
 use Rattle.std.proofs.lemmas.List.{append-nil}
 use Rattle.std.specs.Prelude.{IsTrue}
-use Rattle.formula_meaning.specs.Some.{EachOf, SomeOf}
+use Rattle.logic_meaning.specs.Some.{EachOf, SomeOf}
 use Rattle.formula_store.proofs.Makes.{keeps_then}
 use Rattle.formula_store.specs.Nodes.{tree, IsId}
-use Rattle.virtual_subst.proofs.FromNnfTrees.{empty}
+use Rattle.nnf_trees.proofs.Pieces.{empty}
 use Rattle.branch_rounds.specs.Branches.{Seen, IsOpen, ArePendingOf}
 use Rattle.branch_rounds.specs.Rounds.{IsRound, IsSettled, IsSpreadOver, PassesAt, IsLeftAlone}
 use Rattle.branch_rounds.proofs.Alone.{direct_here, alone_here, spread_alone, only_branch, some_branch}
-use Rattle.atom_normal.specs.Atoms.{context_of}
+use Rattle.normal_atoms.specs.Atoms.{context_of}
 use Rattle.branch_rounds.proofs.Standing.{all_open_kept}
 use Rattle.branch_rounds.proofs.Going.{one_goes, all_spread, only_true}
 use Rattle.branch_rounds.proofs.EachRound.{each_is, spread_each, all_fewer_by}

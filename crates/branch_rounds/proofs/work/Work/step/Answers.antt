@@ -1,11 +1,11 @@
 use Rattle.std.proofs.Common.{◌≡◌, ◌<◌, ◌≤◌, ◌+◌, ◌*◌, false, length, List, map, sym, ap, ◌∙◌, subst, inl, inr, arith}
-use Rattle.formula_meaning.specs.Sizes.{nodes}
-use Rattle.formula_meaning.specs.Some.{SomeOf}
-use Rattle.atom_normal.specs.Atoms.{context_of, atom_of}
-use Rattle.virtual_subst.specs.FromNnfSubstitution.{all_within}
+use Rattle.logic_meaning.specs.Sizes.{nodes}
+use Rattle.logic_meaning.specs.Some.{SomeOf}
+use Rattle.normal_atoms.specs.Atoms.{context_of, atom_of}
+use Rattle.nnf_trees.specs.Placed.{all_within}
 use Rattle.test_points.specs.declared.points.TestPoint.{TestPoint}
 use Rattle.test_points.specs.Points.{place_of}
-use Rattle.linear_forms.specs.declared.form.VarId.{VarId}
+use Rattle.logic_meaning.specs.declared.form.VarId.{VarId}
 use Rattle.formula_store.specs.declared.id.FormulaId.{FormulaId}
 use Rattle.formula_store.specs.Nodes.{tree}
 use Rattle.branch_points.specs.declared.error.ChoiceError.TheVariants as choice

@@ -1,6 +1,6 @@
 use Rattle.std.proofs.Common.{rules, ◌≡◌, map, ap, sym, ◌∙◌, subst}
-use Rattle.formula_meaning.specs.Some.{EachOf}
-use Rattle.atom_normal.specs.Atoms.{context_of, atom_of}
+use Rattle.logic_meaning.specs.Some.{EachOf}
+use Rattle.normal_atoms.specs.Atoms.{context_of, atom_of}
 use Rattle.formula_store.specs.Nodes.{IsId, tree}
 use Rattle.branch_pruning.specs.Pruned.{AreCovering}
 use Rattle.branch_rounds.specs.Branches.{Seen}

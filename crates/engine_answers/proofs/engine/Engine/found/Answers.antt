@@ -1,21 +1,22 @@
 use Rattle.std.proofs.Common.{false, List, map, sym, subst}
 use Rattle.exact_numbers.specs.declared.fraction.Fraction.{Fraction}
-use Rattle.atom_normal.specs.Atoms.{context_of}
-use Rattle.linear_forms.specs.declared.form.VarId.{VarId}
+use Rattle.normal_atoms.specs.Atoms.{context_of}
+use Rattle.logic_meaning.specs.declared.form.VarId.{VarId}
 use Rattle.linear_forms.specs.Values.{point_of, number_of}
-use Rattle.formula_meaning.specs.Formula.{Or}
-use Rattle.formula_meaning.specs.Some.{Among, EachOf}
-use Rattle.elimination_reference.specs.AnswerParts.{guards_of}
+use Rattle.logic_meaning.specs.Formula.{Or}
+use Rattle.logic_meaning.specs.Some.{Among, EachOf}
+use Rattle.logic_meaning.specs.AnswerParts.{guards_of}
 use Rattle.formula_store.specs.Nodes.{tree}
 use Rattle.formula_store.specs.Truths.{Tells}
 use Rattle.formula_store.proofs.Makes.{keeps_then}
-use Rattle.block_scheduler.specs.FromCaseTrees.{Case, cases_seen}
+use Rattle.engine_answers.specs.declared.case_tree.Case.{Case}
+use Rattle.engine_answers.specs.CaseTrees.{cases_seen}
 use Rattle.sample_reference.specs.Seen.{values_of}
-use Rattle.sample_reference.specs.Values.{value_names}
+use Rattle.logic_meaning.specs.Values.{value_names}
 use Rattle.engine_answers.specs.Truths.{CanBeTold}
 use Rattle.engine_answers.specs.Samples.{AreInOrder}
 use Rattle.engine_answers.proofs.Told.{match_some, match_none, tree_told, none_true}
-use Rattle.engine_answers.proofs.Sampled.{none_sampled, case_points, case_sampled, block_valued, sample_given}
+use Rattle.engine_answers.proofs.EngineAnswersSampled.{none_sampled, case_points, case_sampled, block_valued, sample_given}
 use Rattle.engine_answers.proofs.engine.Engine.found.Goals as goal
 
 pub true_case-requires : goal.true_case-requires

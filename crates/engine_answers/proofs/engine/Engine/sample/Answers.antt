@@ -1,11 +1,11 @@
 use Rattle.std.proofs.Common.{subst}
 use Rattle.std.specs.Prelude.{IfOk, IfErr}
-use Rattle.atom_normal.specs.Atoms.{context_of}
-use Rattle.formula_meaning.specs.Tree.{Tree}
+use Rattle.normal_atoms.specs.Atoms.{context_of}
+use Rattle.logic_meaning.specs.Tree.{Tree}
 use Rattle.formula_store.proofs.Makes.{keeps_then}
 use Rattle.linear_forms.specs.Values.{point_of}
-use Rattle.block_scheduler.specs.FromPlainEngine.{StopsWith}
-use Rattle.sample_reference.specs.Sample.{reference_sample}
+use Rattle.reference_engine.specs.Told.{StopsWith}
+use Rattle.logic_meaning.specs.ReferenceSample.{reference_sample}
 use Rattle.sample_reference.specs.TrueSample.{IsTrueSample}
 use Rattle.sample_reference.specs.Seen.{sample_of}
 use Rattle.engine_answers.proofs.engine.Engine.sample.Goals as goal

@@ -1,10 +1,10 @@
 use Rattle.std.proofs.Common.{false, List, sym, subst}
-use Rattle.atom_normal.specs.Atoms.{context_of}
+use Rattle.normal_atoms.specs.Atoms.{context_of}
 use Rattle.linear_forms.specs.Values.{point_of}
-use Rattle.formula_meaning.specs.Some.{Among, EachOf}
+use Rattle.logic_meaning.specs.Some.{Among, EachOf}
 use Rattle.formula_store.specs.Nodes.{tree}
 use Rattle.formula_store.specs.Truths.{Tells}
-use Rattle.block_scheduler.specs.FromCaseTrees.{Case}
+use Rattle.engine_answers.specs.declared.case_tree.Case.{Case}
 use Rattle.engine_answers.specs.Truths.{CanBeTold}
 use Rattle.engine_answers.proofs.Told.{match_some, match_none, tree_told, told_some, told_none, some_true, none_true}
 use Rattle.engine_answers.proofs.engine.Engine.told.Goals as goal

@@ -1,11 +1,11 @@
 use Rattle.std.proofs.Common.{◌↔◌, subst}
 use Rattle.std.specs.Prelude.{IfOk, IfErr, IsTrue}
-use Rattle.atom_normal.specs.Atoms.{context_of}
-use Rattle.elimination_reference.specs.Sample.{reference_at}
-use Rattle.formula_meaning.specs.Tree.{Tree, TrueAt}
+use Rattle.normal_atoms.specs.Atoms.{context_of}
+use Rattle.logic_meaning.specs.Sample.{reference_at}
+use Rattle.logic_meaning.specs.Tree.{Tree, TrueAt}
 use Rattle.formula_store.proofs.Makes.{keeps_then}
 use Rattle.linear_forms.specs.Values.{point_of}
-use Rattle.block_scheduler.specs.FromPlainEngine.{StopsWith}
+use Rattle.reference_engine.specs.Told.{StopsWith}
 use Rattle.engine_answers.proofs.engine.Engine.truth.Goals as goal
 
 pub returns-in-Err-Overflow : goal.returns-in-Err-Overflow

@@ -1,5 +1,5 @@
 use Rattle.std.proofs.Common.{false, [], sym}
-use Rattle.resolved_formulas.specs.Resolving.{formula_variables}
+use Rattle.language_meaning.specs.Resolving.{formula_variables}
 use Rattle.formula_resolving.proofs.FirstCause.{unmet}
 use Rattle.formula_resolving.proofs.Refusing.{accepted, refused, none_bound}
 use Rattle.formula_resolving.proofs.parts.Part.accepted.Goals as goal

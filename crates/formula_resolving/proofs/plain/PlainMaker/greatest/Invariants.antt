@@ -1,5 +1,5 @@
 use Rattle.std.proofs.Common.{◌≡◌, map, take}
-use Rattle.formula_meaning.specs.Sizes.{greatest_height}
+use Rattle.logic_meaning.specs.Sizes.{greatest_height}
 use Rattle.formula_tree.specs.Trees.{members}
 use Rattle.formula_resolving.specs.Plain.{plain_tree}
 use Rattle.formula_resolving.proofs.plain.PlainMaker.greatest.Given as goal

@@ -1,6 +1,6 @@
 use Rattle.std.proofs.Common.{◌≡◌, ◌≤◌, ◌-◌, ◌<◌, Some, length, slice_get, sym, subst, arith}
 use Rattle.std.specs.Map.{keys_of}
-use Rattle.formula_meaning.specs.Sizes.{height}
+use Rattle.logic_meaning.specs.Sizes.{height}
 use Rattle.formula_store.specs.Facts.{IsFactsOf}
 use Rattle.formula_store.specs.Layers.{all}
 use Rattle.formula_store.specs.Nodes.{tree, AreNodes}

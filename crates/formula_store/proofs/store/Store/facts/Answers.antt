@@ -1,5 +1,5 @@
 use Rattle.std.proofs.Common.{◌≡◌, ◌≤◌, Some, slice_get, length, sym, subst, arith}
-use Rattle.formula_meaning.specs.Sizes.{height}
+use Rattle.logic_meaning.specs.Sizes.{height}
 use Rattle.formula_store.specs.Nodes.{tree, AreNodes}
 use Rattle.formula_store.specs.Facts.{IsFactsOf}
 use Rattle.formula_store.proofs.Heights.{height_within}

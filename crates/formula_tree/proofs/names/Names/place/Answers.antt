@@ -1,5 +1,5 @@
 use Rattle.std.proofs.Common.{ap, ◌∙◌}
-use Rattle.atom_normal.specs.FromLinearForms.{VarId}
+use Rattle.logic_meaning.specs.declared.form.VarId.{VarId}
 use Rattle.formula_tree.proofs.NamePlaces.{number_is}
 use Rattle.formula_tree.proofs.names.Names.place.Goals as goal
 

@@ -1,8 +1,8 @@
 use Rattle.std.proofs.Common.{◌≡◌, FitsSigned, rules, ap, sym, ◌∙◌, subst, ℤ}
 use Rattle.std.specs.Int.{w128}
 use Rattle.std.proofs.lemmas.Int.{to_z-of_z}
-use Rattle.formula_meaning.specs.Form.{multiple, coefficient}
-use Rattle.formula_meaning.specs.FromExactNumbers.{InLimit}
+use Rattle.logic_meaning.specs.Form.{multiple, coefficient}
+use Rattle.exact_numbers.specs.Limit.{InLimit}
 use Rattle.linear_forms.specs.Linear.{terms_of}
 use Rattle.linear_forms.proofs.Search.{multiple_within}
 use Rattle.linear_forms.proofs.form.Linear.coefficient.Goals as goal

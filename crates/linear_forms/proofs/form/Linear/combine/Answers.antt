@@ -1,10 +1,10 @@
 use Rattle.std.proofs.Common.{◌≡◌, Err, rules, ap, sym, ◌∙◌, subst, ℤ, inl}
 use Rattle.std.proofs.lemmas.Int.{to_z-of_z}
-use Rattle.formula_meaning.proofs.FromExactNumbers.{fits}
-use Rattle.formula_meaning.specs.Form.{Form, coefficient}
+use Rattle.exact_numbers.proofs.Casts.{fits}
+use Rattle.logic_meaning.specs.Form.{Form, coefficient}
 use Rattle.linear_forms.specs.declared.error.LinError.TheVariants.{Overflow}
 use Rattle.linear_forms.specs.Linear.{terms_of}
-use Rattle.linear_forms.specs.Terms.{CombinePasses}
+use Rattle.logic_meaning.specs.Terms.{CombinePasses}
 use Rattle.linear_forms.specs.Combinations.{IsCombination}
 use Rattle.linear_forms.proofs.MergeSteps.{combination}
 use Rattle.linear_forms.proofs.Places.{at_some}

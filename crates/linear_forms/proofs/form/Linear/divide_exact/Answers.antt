@@ -1,10 +1,11 @@
 use Rattle.std.proofs.Common.{◌≡◌, sym, subst, ℤ, ◌∷◌}
 use Rattle.std.specs.List.{AllZip}
 use Rattle.std.proofs.lemmas.Int.{to_z-of_z}
-use Rattle.formula_meaning.specs.FromExactNumbers.{DividesAll}
-use Rattle.formula_meaning.proofs.FromExactNumbers.{fits, exact_div}
-use Rattle.formula_meaning.specs.Form.{Form}
-use Rattle.linear_forms.specs.Terms.{coefficients}
+use Rattle.exact_numbers.specs.Division.{DividesAll}
+use Rattle.exact_numbers.proofs.Casts.{fits}
+use Rattle.exact_numbers.proofs.LeastMultiple.{exact_div}
+use Rattle.logic_meaning.specs.Form.{Form}
+use Rattle.logic_meaning.specs.Terms.{coefficients}
 use Rattle.linear_forms.specs.Combinations.{IsQuotient}
 use Rattle.linear_forms.specs.Linear.{IsDivided}
 use Rattle.linear_forms.proofs.Division.{exact_quotient_fits, quotient_form}

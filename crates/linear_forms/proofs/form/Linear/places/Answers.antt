@@ -1,6 +1,6 @@
 -- The list has as many terms as the program's has pairs.
 use Rattle.std.proofs.Common.{sym, ap, ◌∙◌, length}
-use Rattle.formula_meaning.specs.Form.{Form}
+use Rattle.logic_meaning.specs.Form.{Form}
 use Rattle.linear_forms.proofs.TermAt.{length-terms_of}
 use Rattle.linear_forms.proofs.form.Linear.places.Goals as goal
 

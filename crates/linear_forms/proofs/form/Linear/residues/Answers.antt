@@ -1,8 +1,8 @@
 use Rattle.std.proofs.Common.{◌≡◌}
 use Rattle.std.proofs.lemmas.Int.{to_z-of_z}
-use Rattle.formula_meaning.proofs.FromExactNumbers.{fits}
+use Rattle.exact_numbers.proofs.Casts.{fits}
 use Rattle.linear_forms.specs.Linear.{terms_of}
-use Rattle.linear_forms.specs.Reduction.{residues}
+use Rattle.logic_meaning.specs.Reduction.{residues}
 use Rattle.linear_forms.proofs.Reduced.{reduced_form, reduced_linear}
 use Rattle.linear_forms.proofs.form.Linear.residues.Goals as goal
 

@@ -1,6 +1,6 @@
 use Rattle.std.proofs.Common.{ap, ◌∙◌}
 use Rattle.std.specs.Prelude.{option_map, slice_get}
-use Rattle.formula_meaning.specs.Form.{Form}
+use Rattle.logic_meaning.specs.Form.{Form}
 use Rattle.linear_forms.specs.Linear.{term_of}
 use Rattle.linear_forms.proofs.TermAt.{slice_get-terms_of, read_at}
 use Rattle.linear_forms.proofs.form.Linear.term.Goals as goal

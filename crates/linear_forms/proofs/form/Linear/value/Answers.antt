@@ -2,11 +2,12 @@ use Rattle.std.proofs.Common.{◌≡◌, Some, None, pos, ℤ, FitsSigned, rules
 use Rattle.std.specs.Prelude.{◌*ℤ◌, ◌+ℤ◌, ◌<ℤ◌}
 use Rattle.std.specs.Int.{w128}
 use Rattle.std.proofs.lemmas.Int.{to_z-of_z}
-use Rattle.formula_meaning.specs.FromExactNumbers.{checked}
-use Rattle.formula_meaning.proofs.FromExactNumbers.{fits, formed_by}
-use Rattle.formula_meaning.specs.Form.{Form}
+use Rattle.exact_numbers.specs.Limit.{checked}
+use Rattle.exact_numbers.proofs.Casts.{fits}
+use Rattle.exact_numbers.proofs.Limits.{formed_by}
+use Rattle.logic_meaning.specs.Form.{Form}
 use Rattle.linear_forms.specs.Linear.{terms_of}
-use Rattle.linear_forms.specs.Terms.{total_steps, value_steps}
+use Rattle.logic_meaning.specs.Terms.{total_steps, value_steps}
 use Rattle.linear_forms.specs.Values.{number_at}
 use Rattle.linear_forms.proofs.Steps.{value_total_none, value_product_none, value_last, value_given, value_refused}
 use Rattle.linear_forms.proofs.form.Linear.value.Goals as goal

@@ -3,8 +3,9 @@ use Rattle.std.specs.Prelude.{◌*ℤ◌, ◌<ℤ◌, ℤ}
 use Rattle.std.specs.Int.{w128}
 use Rattle.std.specs.Map.{keys_of}
 use Rattle.std.proofs.lemmas.Int.{to_z-of_z}
-use Rattle.formula_meaning.specs.FromExactNumbers.{PastLimit}
-use Rattle.formula_meaning.proofs.FromExactNumbers.{fits, mul_positive}
+use Rattle.exact_numbers.specs.Limit.{PastLimit}
+use Rattle.exact_numbers.proofs.Casts.{fits}
+use Rattle.exact_numbers.proofs.Order.{mul_positive}
 use Rattle.linear_forms.specs.Values.{Numbers, number_at}
 use Rattle.linear_forms.proofs.Finer.{IsMade, begun, more, ended}
 use Rattle.linear_forms.proofs.values.Values.finer.Goals as goal

@@ -9,7 +9,7 @@ use Rattle.formula_store.specs.Order.{itself}
 use Rattle.formula_store.specs.Tables.{same_id}
 use Rattle.formula_store.proofs.Before.{each_id, members_before, among_all}
 use Rattle.formula_store.proofs.Filling.{has_more}
-use Rattle.least_theory.specs.Answer.{truth_by}
+use Rattle.linear_theory.specs.Answer.{truth_by}
 use Rattle.linear_opt.specs.Values.{told}
 use Rattle.linear_opt.specs.Truths.{HasTruth}
 use Rattle.linear_opt.proofs.Told.{there, read}

@@ -7,12 +7,12 @@ use Rattle.std.proofs.lemmas.Int.{to_z-of_z}
 use Rattle.exact_numbers.specs.Limit.{checked, InLimit}
 use Rattle.exact_numbers.proofs.Casts.{fits}
 use Rattle.exact_numbers.proofs.Limits.{checked_none}
-use Rattle.formula_meaning.specs.Some.{SomeOf}
-use Rattle.point_grid.specs.declared.axis.Axis.{Axis}
-use Rattle.point_grid.specs.declared.scale.Scale.{Scale}
+use Rattle.logic_meaning.specs.Some.{SomeOf}
+use Rattle.program_meaning.specs.declared.axis.Axis.{Axis}
+use Rattle.program_meaning.specs.declared.scale.Scale.{Scale}
 use Rattle.point_grid.specs.declared.error.GridError.TheVariants.{Overflow}
-use Rattle.point_grid.specs.Scales.{size}
-use Rattle.point_grid.specs.Grids.{common, scale_of, AxisPasses, AxisFits, GridFits}
+use Rattle.program_meaning.specs.Scales.{size}
+use Rattle.program_meaning.specs.GridPoints.{common, scale_of, AxisPasses, AxisFits, GridFits}
 use Rattle.point_grid.specs.Steps.{HasSteps}
 use Rattle.point_grid.proofs.Multiples.{common_positive, common_steps, within_of}
 use Rattle.point_grid.proofs.Counting.{same_of}

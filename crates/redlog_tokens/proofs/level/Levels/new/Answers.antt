@@ -1,6 +1,6 @@
 use Rattle.std.proofs.Common.{◌∷◌, refl, ap, sym}
 use Rattle.std.specs.Prelude.{reverse}
-use Rattle.redlog_tokens.specs.Levels.{groups, outside}
+use Rattle.language_meaning.specs.Levels.{groups, outside}
 use Rattle.redlog_tokens.proofs.level.Levels.new.Goals as goal
 
 pub returns-clause-levels : goal.returns-clause-levels

@@ -1,6 +1,6 @@
 use Rattle.std.proofs.Common.{◌≡◌, ◌∙◌, [], subst, rules}
-use Rattle.session_meaning.specs.Reply.{Reply}
-use Rattle.point_queries.specs.FromSessionState.{state_of}
+use Rattle.program_meaning.specs.Reply.{Reply}
+use Rattle.session_state.specs.Keeping.{state_of}
 use Rattle.session_commands.specs.Seen.{state_in}
 use Rattle.session_commands.proofs.ThroughLemmas.{seen_state}
 use Rattle.session_commands.proofs.session.Session.statement.Goals as goal

@@ -1,8 +1,8 @@
 use Rattle.std.proofs.Common.{◌≡◌, false, sym, subst, length, rules}
-use Rattle.standing_assumptions.specs.FromSessionMeaning.{is_same_theory}
-use Rattle.formula_meaning.specs.Some.{EachOf}
-use Rattle.atom_normal.specs.Atoms.{context_of}
-use Rattle.standing_assumptions.specs.Trees.{standing_trees}
+use Rattle.program_meaning.specs.State.{is_same_theory}
+use Rattle.logic_meaning.specs.Some.{EachOf}
+use Rattle.normal_atoms.specs.Atoms.{context_of}
+use Rattle.session_state.specs.Trees.{standing_trees}
 use Rattle.session_state.specs.Keeping.{IsSessionFormula}
 use Rattle.session_state.proofs.StateLemmas.{cleared_session, cleared_state}
 use Rattle.session_state.proofs.state.SessionState.choose.Goals as goal

@@ -1,6 +1,6 @@
 use Rattle.std.proofs.Common.{◌≡◌, length, sym, refl, ap, ◌∙◌, rules, vec_len}
 use Rattle.std.specs.Prelude.{◌==◌}
-use Rattle.smt_reader.specs.Shapes.{is_void}
+use Rattle.smt_language.specs.SpelledShapes.{is_void}
 use Rattle.smt_reader.proofs.Lists.{none_is}
 use Rattle.smt_reader.proofs.Readings.{group_tree}
 use Rattle.smt_reader.proofs.sexpr.SExpr.is_void.Goals as goal

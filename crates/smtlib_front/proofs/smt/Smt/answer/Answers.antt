@@ -1,7 +1,7 @@
 use Rattle.std.proofs.Common.{sym, subst}
-use Rattle.smt_runs.specs.Replies.{ignores, exits}
-use Rattle.smt_runs.specs.declared.reply.SmtReply.TheVariants as reply
-use Rattle.smt_syntax.specs.CodeTrees.{command_tree}
+use Rattle.program_meaning.specs.Replies.{ignores, exits}
+use Rattle.program_meaning.specs.declared.smt_reply.SmtReply.TheVariants as reply
+use Rattle.smt_tokens.specs.CodeTrees.{command_tree}
 use Rattle.smtlib_front.specs.Steps.{IsAnswered}
 use Rattle.smtlib_front.proofs.Causes.{ignored_accepted, exit_accepted}
 use Rattle.smtlib_front.proofs.smt.Smt.answer.Goals as goal

@@ -1,10 +1,10 @@
 use Rattle.std.proofs.Common.{rules, ◌≡◌, Err, sym, subst}
-use Rattle.smt_runs.specs.State.{State}
-use Rattle.smt_runs.specs.AssertionWords.{of_assertion}
-use Rattle.smt_runs.specs.declared.error.SmtError.TheVariants as error
-use Rattle.smt_runs.specs.declared.reply.SmtReply.TheVariants as reply
-use Rattle.smt_syntax.specs.CodeTrees.{expression_tree}
-use Rattle.smt_syntax.specs.Trees.{Assert}
+use Rattle.program_meaning.specs.SmtState.{State}
+use Rattle.smt_resolver.specs.AssertionWords.{of_assertion}
+use Rattle.program_meaning.specs.declared.smt_error.SmtError.TheVariants as error
+use Rattle.program_meaning.specs.declared.smt_reply.SmtReply.TheVariants as reply
+use Rattle.smt_tokens.specs.CodeTrees.{expression_tree}
+use Rattle.smt_language.specs.Trees.{Assert}
 use Rattle.smtlib_front.specs.contracts.smt.Smt.{the_view}
 use Rattle.smtlib_front.specs.Represents.{Represents}
 use Rattle.smtlib_front.specs.Seen.{Seen}

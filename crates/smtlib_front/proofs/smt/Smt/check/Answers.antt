@@ -2,10 +2,10 @@ use Rattle.std.proofs.Common.{rules, ◌≡◌, inl, Err, length, refl, sym, ap,
 use Rattle.std.specs.List.{AllByRecursion}
 use Rattle.formula_store.specs.Nodes.{IsId}
 use Rattle.formula_store.proofs.Makes.{keeps_then}
-use Rattle.smt_syntax.specs.Trees.{Check}
-use Rattle.smt_runs.specs.State.{State}
-use Rattle.smt_runs.specs.declared.error.SmtError.TheVariants as error
-use Rattle.smt_runs.specs.declared.reply.SmtReply.TheVariants as reply
+use Rattle.smt_language.specs.Trees.{Check}
+use Rattle.program_meaning.specs.SmtState.{State}
+use Rattle.program_meaning.specs.declared.smt_error.SmtError.TheVariants as error
+use Rattle.program_meaning.specs.declared.smt_reply.SmtReply.TheVariants as reply
 use Rattle.smtlib_front.specs.contracts.smt.Smt.{the_view}
 use Rattle.smtlib_front.specs.Represents.{Represents}
 use Rattle.smtlib_front.specs.Seen.{Seen, HasValueForEach}

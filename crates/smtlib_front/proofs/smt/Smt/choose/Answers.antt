@@ -1,7 +1,7 @@
 use Rattle.std.proofs.Common.{Some, sym, ◌∙◌, subst}
-use Rattle.smt_runs.specs.State.{State}
-use Rattle.smt_runs.specs.declared.reply.SmtReply.TheVariants as reply
-use Rattle.smt_syntax.specs.Trees.{Choose}
+use Rattle.program_meaning.specs.SmtState.{State}
+use Rattle.program_meaning.specs.declared.smt_reply.SmtReply.TheVariants as reply
+use Rattle.smt_language.specs.Trees.{Choose}
 use Rattle.smtlib_front.specs.contracts.smt.Smt.{the_view}
 use Rattle.smtlib_front.specs.Represents.{Represents}
 use Rattle.smtlib_front.specs.Seen.{Seen}

@@ -1,8 +1,8 @@
 use Rattle.std.proofs.Common.{rules, ◌≡◌, Err, sym, subst}
-use Rattle.smt_proper.proofs.Spelled.{spelled_proper}
-use Rattle.smt_runs.specs.Replies.{Replies, unread}
-use Rattle.smt_runs.specs.Words.{of_reading}
-use Rattle.smt_syntax.specs.CodeTrees.{command_tree}
+use Rattle.smt_theorems.proofs.Spelled.{spelled_proper}
+use Rattle.program_meaning.specs.Replies.{Replies, unread}
+use Rattle.program_meaning.specs.SmtWords.{of_reading}
+use Rattle.smt_tokens.specs.CodeTrees.{command_tree}
 use Rattle.smtlib_front.proofs.Replied.{replied}
 use Rattle.smtlib_front.proofs.smt.Smt.command.Goals as goal
 

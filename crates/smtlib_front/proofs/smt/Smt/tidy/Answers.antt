@@ -2,7 +2,7 @@ use Rattle.std.proofs.Common.{map, sym, subst}
 use Rattle.std.specs.List.{AllByRecursion}
 use Rattle.formula_tree.specs.Makers.{AreMade}
 use Rattle.formula_store.specs.Nodes.{IsId, tree}
-use Rattle.smt_runs.specs.State.{State}
+use Rattle.program_meaning.specs.SmtState.{State}
 use Rattle.smtlib_front.specs.contracts.smt.Smt.{the_view}
 use Rattle.smtlib_front.specs.Represents.{Represents}
 use Rattle.smtlib_front.specs.Seen.{Seen}

@@ -2,14 +2,14 @@ use Rattle.std.proofs.Common.{rules, ◌≡◌, ℕ, ◌<◌, ◌≤◌, List, m
 use Rattle.std.specs.Prelude.{is_some}
 use Rattle.exact_numbers.specs.Fraction.{frac_of}
 use Rattle.exact_numbers.specs.declared.fraction.Fraction.{Fraction}
-use Rattle.atom_normal.specs.declared.atoms.Context.{Context as Theory}
-use Rattle.redlog_printer.specs.Writing.{text_limit}
-use Rattle.smt_runs.specs.State.{State}
-use Rattle.smt_runs.specs.State as state
-use Rattle.smt_runs.specs.Texts.{values_text}
-use Rattle.smt_runs.specs.declared.error.SmtError.TheVariants as error
-use Rattle.smt_runs.specs.declared.reply.SmtReply.TheVariants as reply
-use Rattle.smt_syntax.specs.Trees.{Values}
+use Rattle.normal_atoms.specs.declared.atoms.Context.{Context as Theory}
+use Rattle.logic_meaning.specs.Writing.{text_limit}
+use Rattle.program_meaning.specs.SmtState.{State}
+use Rattle.program_meaning.specs.SmtState as state
+use Rattle.program_meaning.specs.Texts.{values_text}
+use Rattle.program_meaning.specs.declared.smt_error.SmtError.TheVariants as error
+use Rattle.program_meaning.specs.declared.smt_reply.SmtReply.TheVariants as reply
+use Rattle.smt_language.specs.Trees.{Values}
 use Rattle.smtlib_front.specs.contracts.smt.Smt.{the_view}
 use Rattle.smtlib_front.specs.Represents.{Represents, kept_of}
 use Rattle.smtlib_front.specs.Seen.{Seen, HasValueForEach}

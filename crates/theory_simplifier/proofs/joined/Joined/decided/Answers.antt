@@ -1,7 +1,7 @@
 use Rattle.std.proofs.Common.{nat_eq, ◌≡◌, ◌<◌, ℕ, sym, ap, ◌∙◌, subst, get_or, arith, false}
-use Rattle.formula_meaning.specs.Some.{EachOf}
-use Rattle.atom_normal.specs.Atoms.{context_of, atom_of}
-use Rattle.atom_merging.specs.Computed.{decided_by}
+use Rattle.logic_meaning.specs.Some.{EachOf}
+use Rattle.normal_atoms.specs.Atoms.{context_of, atom_of}
+use Rattle.normal_atoms.specs.Computed.{decided_by}
 use Rattle.theory_simplifier.specs.VariableParts.{part_number}
 use Rattle.theory_simplifier.proofs.Reading.{some_is, no_truth, IsSilent, others_silent, all_silent, speaks_at}
 use Rattle.theory_simplifier.proofs.Indexed.{in_atoms, in_entries, entry_here, told_here, told_normal_here, first_more, before_here, all_here}

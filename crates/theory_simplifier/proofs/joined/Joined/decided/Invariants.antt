@@ -1,6 +1,6 @@
 use Rattle.std.proofs.Common.{take, get_or}
-use Rattle.formula_meaning.specs.Some.{EachOf}
-use Rattle.atom_normal.specs.Atoms.{context_of, atom_of}
+use Rattle.logic_meaning.specs.Some.{EachOf}
+use Rattle.normal_atoms.specs.Atoms.{context_of, atom_of}
 use Rattle.theory_simplifier.proofs.Reading.{IsSilent}
 use Rattle.theory_simplifier.proofs.joined.Joined.decided.Given as goal
 

@@ -1,6 +1,6 @@
 use Rattle.std.proofs.Common.{◌≡◌, map, take}
-use Rattle.formula_meaning.specs.declared.junction.Junction.TheVariants.{Conjunction}
-use Rattle.atom_normal.specs.Atoms.{atom_of}
+use Rattle.logic_meaning.specs.declared.junction.Junction.TheVariants.{Conjunction}
+use Rattle.normal_atoms.specs.Atoms.{atom_of}
 use Rattle.theory_simplifier.proofs.joined.Joined.of.Given as goal
 
 abbrev pub invariant-loop-atom : goal.invariant-loop-atom

@@ -1,9 +1,9 @@
 use Rattle.std.proofs.Common.{nat_eq, ◌≡◌, ◌<◌, ℕ, sym, ap, ◌∙◌, subst, get_or, arith, false, true≢false}
-use Rattle.formula_meaning.specs.Some.{EachOf}
-use Rattle.formula_meaning.specs.declared.junction.Junction.{Junction}
-use Rattle.atom_normal.specs.Atoms.{context_of, atom_of}
-use Rattle.atom_merging.specs.declared.answers.Merged.TheVariants.{Keep}
-use Rattle.atom_merging.specs.Computed.{merged, merging_of}
+use Rattle.logic_meaning.specs.Some.{EachOf}
+use Rattle.logic_meaning.specs.declared.junction.Junction.{Junction}
+use Rattle.normal_atoms.specs.Atoms.{context_of, atom_of}
+use Rattle.normal_atoms.specs.declared.answers.Merged.TheVariants.{Keep}
+use Rattle.normal_atoms.specs.Computed.{merged, merging_of}
 use Rattle.theory_simplifier.specs.Listed.{Listed}
 use Rattle.theory_simplifier.specs.VariableParts.{part_number}
 use Rattle.theory_simplifier.proofs.Reading.{IsApart, others_apart}

@@ -1,17 +1,17 @@
 use Rattle.std.proofs.Common.{◌≡◌, ◌<◌, Some, None, ℕ, zero, suc, List, [], ◌∷◌, length, sym, ap, subst, ◌∙◌, refl, get_or, arith}
-use Rattle.formula_meaning.specs.Context.{Context}
-use Rattle.formula_meaning.specs.Form.{Form}
-use Rattle.formula_meaning.specs.Some.{EachOf}
-use Rattle.formula_meaning.specs.declared.junction.Junction.{Junction}
-use Rattle.formula_meaning.specs.Atom.{Atom}
-use Rattle.atom_normal.specs.declared.atoms.Atom.{Atom as CodeAtom}
-use Rattle.atom_normal.specs.Atoms.{context_of, atom_of}
-use Rattle.atom_normal.specs.NormalForm.{IsNormal}
-use Rattle.atom_merging.specs.declared.answers.Merged.{Merged}
-use Rattle.atom_merging.specs.declared.answers.Merged.TheVariants.{True, False, One, Keep}
-use Rattle.atom_merging.specs.Computed.{IsNormalWithin}
-use Rattle.simplified_formulas.specs.AtomKit.{atom_kit}
-use Rattle.simplified_formulas.specs.Pass.{with_one}
+use Rattle.logic_meaning.specs.Context.{Context}
+use Rattle.logic_meaning.specs.Form.{Form}
+use Rattle.logic_meaning.specs.Some.{EachOf}
+use Rattle.logic_meaning.specs.declared.junction.Junction.{Junction}
+use Rattle.logic_meaning.specs.Atom.{Atom}
+use Rattle.normal_atoms.specs.declared.atoms.Atom.{Atom as CodeAtom}
+use Rattle.normal_atoms.specs.Atoms.{context_of, atom_of}
+use Rattle.logic_meaning.specs.NormalForm.{IsNormal}
+use Rattle.normal_atoms.specs.declared.answers.Merged.{Merged}
+use Rattle.normal_atoms.specs.declared.answers.Merged.TheVariants.{True, False, One, Keep}
+use Rattle.normal_atoms.specs.Computed.{IsNormalWithin}
+use Rattle.shape_theory.specs.AtomKit.{atom_kit}
+use Rattle.shape_theory.specs.Pass.{with_one}
 use Rattle.theory_simplifier.specs.Listed.{Listed}
 use Rattle.theory_simplifier.specs.VariableParts.{part_number, number_from, magnitude}
 use Rattle.theory_simplifier.specs.Partners.{IsPartner, IsMergedAt}

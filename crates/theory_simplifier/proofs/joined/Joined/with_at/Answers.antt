@@ -1,7 +1,7 @@
 use Rattle.std.proofs.Common.{◌≡◌, ◌<◌, ℕ, List, length, map, get_or, sym, ap, subst, ◌∙◌}
 use Rattle.std.proofs.Math.ListN.{set}
-use Rattle.formula_meaning.specs.Atom as meant
-use Rattle.atom_normal.specs.Atoms.{atom_of}
+use Rattle.logic_meaning.specs.Atom as meant
+use Rattle.normal_atoms.specs.Atoms.{atom_of}
 use Rattle.theory_simplifier.specs.Listed.{Listed, entry_atom, IsEntry}
 use Rattle.theory_simplifier.specs.VariableParts.{part_number}
 use Rattle.theory_simplifier.proofs.Entries.{map_set, length_map, all_set}

@@ -1,6 +1,6 @@
 use Rattle.std.proofs.Common.{rules, ◌≡◌, ◌++◌, ◌∷◌, [], map, ap, sym, subst, ◌∙◌, List}
 use Rattle.std.specs.List.{AllByRecursion}
-use Rattle.atom_normal.specs.Atoms.{atom_of}
+use Rattle.normal_atoms.specs.Atoms.{atom_of}
 use Rattle.theory_simplifier.specs.declared.joined.Entry.{Entry}
 use Rattle.theory_simplifier.specs.Listed.{Listed, entry_atom, IsEntry}
 use Rattle.theory_simplifier.specs.VariableParts.{part_number}

@@ -1,6 +1,6 @@
 use Rattle.std.proofs.Common.{[], ◌++◌, map, ap, ◌∙◌}
-use Rattle.atom_normal.specs.NormalForm.{negated_normal}
-use Rattle.simplified_formulas.specs.Atoms.{tells}
+use Rattle.logic_meaning.specs.NormalForm.{negated_normal}
+use Rattle.logic_meaning.specs.AtomKit.{tells}
 use Rattle.theory_simplifier.specs.Known.{inside}
 use Rattle.theory_simplifier.proofs.known.Frame.is_silent.Goals as goal
 

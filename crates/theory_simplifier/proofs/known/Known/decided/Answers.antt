@@ -1,10 +1,10 @@
 use Rattle.std.proofs.Common.{◌≡◌, ℕ, ◌+◌, ◌-◌, ◌<◌, ◌≤◌, length, take, Bool, Option, List, sym, ap, ◌∙◌, arith}
-use Rattle.atom_normal.specs.Atoms.{context_of, atom_of}
-use Rattle.formula_meaning.specs.Context.{Context}
-use Rattle.formula_meaning.specs.Atom.{Atom}
+use Rattle.normal_atoms.specs.Atoms.{context_of, atom_of}
+use Rattle.logic_meaning.specs.Context.{Context}
+use Rattle.logic_meaning.specs.Atom.{Atom}
 use Rattle.theory_simplifier.specs.declared.known.Frame.{Frame}
-use Rattle.simplified_formulas.specs.AtomKit.{atom_kit}
-use Rattle.simplified_formulas.specs.Pass.{decided}
+use Rattle.shape_theory.specs.AtomKit.{atom_kit}
+use Rattle.shape_theory.specs.Pass.{decided}
 use Rattle.theory_simplifier.specs.Known.{known_atoms}
 use Rattle.theory_simplifier.proofs.Reading.{some_is, no_truth}
 use Rattle.theory_simplifier.proofs.Knowing.{list_tells, list_silent, name_hides, name_passes, frame_read}

@@ -1,7 +1,7 @@
 use Rattle.std.proofs.Common.{◌≡◌, ◌≤◌, length, take}
-use Rattle.atom_normal.specs.Atoms.{context_of, atom_of}
-use Rattle.simplified_formulas.specs.AtomKit.{atom_kit}
-use Rattle.simplified_formulas.specs.Pass.{decided}
+use Rattle.normal_atoms.specs.Atoms.{context_of, atom_of}
+use Rattle.shape_theory.specs.AtomKit.{atom_kit}
+use Rattle.shape_theory.specs.Pass.{decided}
 use Rattle.theory_simplifier.specs.Known.{known_atoms}
 use Rattle.theory_simplifier.proofs.known.Known.decided.Given as goal
 

@@ -5,8 +5,8 @@ use Rattle.std.proofs.lemmas.Int.{to_z-of_z}
 use Rattle.exact_numbers.specs.Limit.{InLimit}
 use Rattle.exact_numbers.specs.Divides.{content_of}
 use Rattle.exact_numbers.proofs.Casts.{fits, same_bits}
-use Rattle.linear_forms.specs.Reduction.{quotient}
-use Rattle.resolved_formulas.specs.RationalForms.{numbers_of}
+use Rattle.logic_meaning.specs.Reduction.{quotient}
+use Rattle.language_meaning.specs.RationalForms.{numbers_of}
 use Rattle.written_atoms.proofs.Steps.{lowest_already, lowest_divided, denominator_positive}
 use Rattle.written_atoms.proofs.rational.Rational.lowest.Goals as goal
 

@@ -5,10 +5,10 @@ use Rattle.exact_numbers.specs.Fraction.{frac_of}
 use Rattle.exact_numbers.specs.Limit.{InLimit, PastLimit}
 use Rattle.exact_numbers.proofs.Order.{mul_positive}
 use Rattle.exact_numbers.proofs.Casts.{fits}
-use Rattle.formula_meaning.specs.Form.{Form}
-use Rattle.formula_meaning.specs.Combining.{CombinePasses}
+use Rattle.logic_meaning.specs.Form.{Form}
+use Rattle.logic_meaning.specs.Combining.{CombinePasses}
 use Rattle.linear_forms.specs.Combinations.{IsCombination}
-use Rattle.resolved_formulas.specs.RationalForms.{lowest_form}
+use Rattle.language_meaning.specs.RationalForms.{lowest_form}
 use Rattle.written_atoms.specs.Rational.{rational_of}
 use Rattle.written_atoms.proofs.Steps.{product_gives, product_stops, denominator_stops}
 use Rattle.written_atoms.proofs.rational.Rational.multiple.Goals as goal

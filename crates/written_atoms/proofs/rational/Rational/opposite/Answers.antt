@@ -1,7 +1,7 @@
 use Rattle.std.specs.Int.{w128}
 use Rattle.std.proofs.lemmas.Int.{to_z-of_z}
 use Rattle.exact_numbers.proofs.Casts.{fits}
-use Rattle.resolved_formulas.specs.RationalForms.{numbers_of}
+use Rattle.language_meaning.specs.RationalForms.{numbers_of}
 use Rattle.written_atoms.specs.Rational.{rational_of}
 use Rattle.written_atoms.proofs.StepCases.{minus_divides, opposite_is}
 use Rattle.written_atoms.proofs.rational.Rational.opposite.Goals as goal

@@ -1,6 +1,6 @@
 use Rattle.std.proofs.Common.{◌≡◌, Result, IfOk, option_map, ap, sym, ◌∙◌, subst}
-use Rattle.atom_normal.specs.Atoms.{context_of}
-use Rattle.resolved_formulas.specs.RationalForms.{RationalForm, Missing, multiple_of_form, quotient_of_forms}
+use Rattle.normal_atoms.specs.Atoms.{context_of}
+use Rattle.language_meaning.specs.RationalForms.{RationalForm, Missing, multiple_of_form, quotient_of_forms}
 use Rattle.written_atoms.specs.Rational.{rational_of, there}
 use Rattle.exact_numbers.specs.Frac.{inverted}
 use Rattle.written_atoms.proofs.StepCases.{over_integers, over_divisor, over_other}

@@ -6,9 +6,9 @@ use Rattle.exact_numbers.specs.Limit.{InLimit, PastLimit}
 use Rattle.exact_numbers.specs.Divides.{lcm_of}
 use Rattle.exact_numbers.proofs.Casts.{fits}
 use Rattle.exact_numbers.proofs.Limits.{formed_by}
-use Rattle.formula_meaning.specs.Combining.{CombinePasses}
+use Rattle.logic_meaning.specs.Combining.{CombinePasses}
 use Rattle.linear_forms.specs.Combinations.{IsLinear, IsCombination}
-use Rattle.resolved_formulas.specs.RationalForms.{lowest_form}
+use Rattle.language_meaning.specs.RationalForms.{lowest_form}
 use Rattle.written_atoms.specs.declared.rational.Rational.{Rational}
 use Rattle.written_atoms.specs.Rational.{rational_of}
 use Rattle.written_atoms.proofs.Steps.{AreSummed, sum_gives, sum_stops, multiple_stops}

@@ -4,8 +4,8 @@ use Rattle.std.proofs.lemmas.Int.{to_z-of_z}
 use Rattle.exact_numbers.specs.Frac.{IsLowest, power_steps}
 use Rattle.exact_numbers.specs.Fraction.{frac_of}
 use Rattle.exact_numbers.proofs.Casts.{fits, zero_bits, same_bits}
-use Rattle.resolved_formulas.specs.RationalForms.{constant_form, power_of_form, small_power}
-use Rattle.qe_syntax.specs.Proper.{IsNumeral}
+use Rattle.language_meaning.specs.RationalForms.{constant_form, power_of_form, small_power}
+use Rattle.written_syntax.specs.Proper.{IsNumeral}
 use Rattle.written_atoms.specs.Rational.{rational_of, there}
 use Rattle.written_atoms.proofs.StepCases.{power_past, power_of_constant, power_of_other, large_power, constant_lowest, above_one}
 use Rattle.written_atoms.proofs.rational.Rational.power.Goals as goal

@@ -1,5 +1,5 @@
 use Rattle.std.proofs.Common.{◌≡◌, Result, IfOk, option_map, ap, sym, ◌∙◌, subst}
-use Rattle.resolved_formulas.specs.RationalForms.{RationalForm, Missing, multiple_of_form}
+use Rattle.language_meaning.specs.RationalForms.{RationalForm, Missing, multiple_of_form}
 use Rattle.written_atoms.specs.Rational.{rational_of, there}
 use Rattle.written_atoms.proofs.StepCases.{times_second, times_first, times_neither}
 use Rattle.written_atoms.proofs.rational.Rational.times.Goals as goal

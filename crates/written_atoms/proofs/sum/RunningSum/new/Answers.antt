@@ -2,7 +2,7 @@ use Rattle.std.proofs.Common.{refl}
 use Rattle.std.proofs.Math.IntN.{pos}
 use Rattle.exact_numbers.specs.Frac.{whole_frac}
 use Rattle.exact_numbers.proofs.FractionRule.{whole_lowest}
-use Rattle.resolved_formulas.specs.RationalForms.{constant_form}
+use Rattle.language_meaning.specs.RationalForms.{constant_form}
 use Rattle.resolved_formulas.proofs.LowestForms.{constant_lowest}
 use Rattle.written_atoms.proofs.SharedSums.{form_by_name}
 use Rattle.written_atoms.proofs.sum.RunningSum.new.Goals as goal

@@ -4,8 +4,8 @@ use Rattle.std.proofs.lemmas.Int.{ints, to_z-of_z}
 use Rattle.exact_numbers.specs.Limit.{InLimit}
 use Rattle.exact_numbers.proofs.Casts.{fits}
 use Rattle.exact_numbers.proofs.Ring.{mul_zero}
-use Rattle.formula_meaning.specs.Combining.{AddWithin}
-use Rattle.formula_meaning.specs.Form.{Term, coefficient, multiple}
+use Rattle.logic_meaning.specs.Combining.{AddWithin}
+use Rattle.logic_meaning.specs.Form.{Term, coefficient, multiple}
 use Rattle.linear_forms.proofs.Determined.{coefficient_of_term}
 use Rattle.written_atoms.specs.Entries.{coefficient_at}
 use Rattle.written_atoms.proofs.EntryTerms.{added_more, take_whole, none_before, within_at}

@@ -1,6 +1,6 @@
 use Rattle.std.proofs.Common.{◌≡◌, ℕ, take}
 use Rattle.std.specs.Prelude.{◌+ℤ◌, ◌*ℤ◌}
-use Rattle.formula_meaning.specs.Form.{multiple}
+use Rattle.logic_meaning.specs.Form.{multiple}
 use Rattle.written_atoms.specs.Entries.{coefficient_at}
 use Rattle.written_atoms.proofs.sum.WholeSum.add.Given as goal
 

@@ -1,7 +1,6 @@
-use Rattle.std.proofs.Common.{◌≡◌, ℤ, sym, subst}
+use Rattle.std.proofs.Common.{◌≡◌, ℤ, sym, subst, arith}
 use Rattle.std.proofs.lemmas.Int.{to_z-of_z}
 use Rattle.std.proofs.lemmas.Grind.{common_steps}
-use Rattle.std.proofs.Common.{arith}
 use Rattle.exact_numbers.specs.Limit.{InLimit}
 use Rattle.exact_numbers.proofs.Casts.{fits}
 use Rattle.written_atoms.specs.Entries.{coefficient_at}

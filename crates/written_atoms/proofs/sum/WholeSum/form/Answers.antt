@@ -4,8 +4,8 @@ use Rattle.std.proofs.lemmas.List.{append-nil}
 use Rattle.std.proofs.lemmas.Int.{to_z-of_z}
 use Rattle.exact_numbers.specs.Limit.{InLimit}
 use Rattle.exact_numbers.proofs.Casts.{fits, zero_bits}
-use Rattle.formula_meaning.specs.Form.{coefficient}
-use Rattle.formula_meaning.specs.Sorted.{with_term}
+use Rattle.logic_meaning.specs.Form.{coefficient}
+use Rattle.logic_meaning.specs.Sorted.{with_term}
 use Rattle.linear_forms.specs.Linear.{terms_of}
 use Rattle.written_atoms.specs.Sum.{IsSumOf}
 use Rattle.written_atoms.proofs.EntryTerms.{nonzero_terms, AreInOrder, AreTermsOf, order_first, order_rest, with_nothing, terms_of_entries, terms_pushed, form_of_entries}

@@ -3,8 +3,8 @@ use Rattle.std.specs.Prelude.{◌*ℤ◌, slice_get}
 use Rattle.std.proofs.lemmas.Int.{to_z-of_z}
 use Rattle.exact_numbers.specs.Limit.{InLimit}
 use Rattle.exact_numbers.proofs.Casts.{fits}
-use Rattle.formula_meaning.specs.Combining.{AddWithin}
-use Rattle.formula_meaning.specs.Form.{Term, coefficient, multiple}
+use Rattle.logic_meaning.specs.Combining.{AddWithin}
+use Rattle.logic_meaning.specs.Form.{Term, coefficient, multiple}
 use Rattle.written_atoms.specs.Entries.{coefficient_at}
 use Rattle.written_atoms.proofs.EntryTerms.{within_more, take_whole, within_at}
 use Rattle.written_atoms.proofs.sum.WholeSum.may_take.Goals as goal

@@ -1,7 +1,7 @@
 use Rattle.std.proofs.Common.{ℕ, take}
 use Rattle.std.specs.Prelude.{◌*ℤ◌}
-use Rattle.formula_meaning.specs.Form.{multiple}
-use Rattle.formula_meaning.specs.Combining.{AddWithin}
+use Rattle.logic_meaning.specs.Form.{multiple}
+use Rattle.logic_meaning.specs.Combining.{AddWithin}
 use Rattle.written_atoms.specs.Entries.{coefficient_at}
 use Rattle.written_atoms.proofs.sum.WholeSum.may_take.Given as goal
 

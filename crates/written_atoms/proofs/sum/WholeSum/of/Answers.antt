@@ -3,7 +3,7 @@ use Rattle.std.specs.Int.{w128}
 use Rattle.std.proofs.lemmas.Int.{to_z-of_z}
 use Rattle.exact_numbers.proofs.Casts.{fits}
 use Rattle.written_atoms.specs.Entries.{coefficient_at}
-use Rattle.formula_meaning.specs.Form.{coefficient}
+use Rattle.logic_meaning.specs.Form.{coefficient}
 use Rattle.written_atoms.proofs.sum.WholeSum.of.Goals as goal
 
 pub returns : goal.returns

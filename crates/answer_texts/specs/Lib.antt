@@ -1,4 +1,0 @@
-pub mod Answers
-pub mod Points
-pub mod Within
-pub mod FromPlainCases

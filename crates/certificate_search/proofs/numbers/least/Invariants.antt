@@ -1,9 +1,0 @@
-use Rattle.std.proofs.Common.{◌≡◌, map, drop, option_map}
-use Rattle.exact_numbers.specs.Fraction.{frac_of}
-use Rattle.sample_reference.specs.Calculated.{least_with}
-use Rattle.fourier_motzkin.specs.Bounds.{least}
-use Rattle.certificate_search.proofs.numbers.least.Given as goal
-
--- the least so far and of the numbers left is that of all
-abbrev pub invariant-loop-number : goal.invariant-loop-number
-invariant-loop-number l = least_with (option_map frac_of l.least) (map frac_of (drop l.number-index l.numbers)) ≡ least (map frac_of l.numbers)

@@ -1,5 +1,0 @@
-use Rattle.clean_forms.proofs.TreeLaws.{keeps_shape, brings_no_name}
-use Rattle.clean_forms.proofs.cleaning_brings_no_name.Goals as goal
-
-pub returns : goal.returns
-returns c = record { shape = keeps_shape; names = brings_no_name }

@@ -1,5 +1,0 @@
-use Rattle.clean_forms.proofs.TreeLaws.{brings_no_node, lengthens_no_text}
-use Rattle.clean_forms.proofs.cleaning_brings_no_node.Goals as goal
-
-pub returns : goal.returns
-returns c = record { nodes = brings_no_node; text = lengthens_no_text }

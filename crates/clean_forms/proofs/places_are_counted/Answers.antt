@@ -1,6 +1,0 @@
-use Rattle.clean_forms.proofs.Places.{places_counted}
-use Rattle.clean_forms.proofs.Counts.{sizes_plain, few_decide}
-use Rattle.clean_forms.proofs.places_are_counted.Goals as goal
-
-pub returns : goal.returns
-returns c = record { places = places_counted; sizes = sizes_plain; few = few_decide }

@@ -1,5 +1,0 @@
-pub mod Values
-pub mod Spelling
-pub mod Steps
-pub mod Rows
-pub mod Walks

@@ -1,6 +1,0 @@
-use Rattle.std.proofs.Common.{rules}
-use Rattle.command_words.proofs.Spelling.{excluded}
-use Rattle.command_words.proofs.words.spelled.Goals as goal
-
-pub returns-in-SmtLib : goal.returns-in-SmtLib
-returns-in-SmtLib c = excluded c.args.words.now c.in_ok-options.options c.in_ok-options.ensures c.in-SmtLib.is (search rules)

@@ -1,4 +1,0 @@
-pub mod Value
-pub mod Words
-pub mod OptionIds
-pub mod Reading

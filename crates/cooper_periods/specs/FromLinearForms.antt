@@ -1,2 +1,0 @@
--- What the crates above name of `linear_forms`.
-pub use Rattle.atom_normal.specs.FromLinearForms.{VarId}

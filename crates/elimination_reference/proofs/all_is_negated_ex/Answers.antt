@@ -1,5 +1,0 @@
-use Rattle.elimination_reference.proofs.Turned.{all_negated}
-use Rattle.elimination_reference.proofs.all_is_negated_ex.Goals as goal
-
-pub returns : goal.returns
-returns c = all_negated

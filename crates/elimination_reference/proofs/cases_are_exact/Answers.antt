@@ -1,5 +1,0 @@
-use Rattle.elimination_reference.proofs.CasesExact.{cases_exact}
-use Rattle.elimination_reference.proofs.cases_are_exact.Goals as goal
-
-pub returns : goal.returns
-returns c = cases_exact

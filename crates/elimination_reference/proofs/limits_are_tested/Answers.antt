@@ -1,5 +1,0 @@
-use Rattle.elimination_reference.proofs.Limits.{limits_tested}
-use Rattle.elimination_reference.proofs.limits_are_tested.Goals as goal
-
-pub returns : goal.returns
-returns c = limits_tested

@@ -1,5 +1,0 @@
-use Rattle.elimination_reference.proofs.Sound.{reference_exact}
-use Rattle.elimination_reference.proofs.reference_is_exact.Goals as goal
-
-pub returns : goal.returns
-returns c = reference_exact

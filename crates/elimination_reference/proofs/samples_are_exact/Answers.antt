@@ -1,5 +1,0 @@
-use Rattle.elimination_reference.proofs.Sample.{samples_exact}
-use Rattle.elimination_reference.proofs.samples_are_exact.Goals as goal
-
-pub returns : goal.returns
-returns c = samples_exact

@@ -1,2 +1,0 @@
-pub mod Constraints
-pub mod Stops

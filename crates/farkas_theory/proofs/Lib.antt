@@ -1,3 +1,0 @@
-pub mod Refutes
-pub mod Sums
-mod Examples

@@ -1,4 +1,0 @@
-pub mod Constraints
-pub mod Meeting
-pub mod Farkas
-pub mod Refutes

@@ -1,0 +1,17 @@
+pub mod NewNames
+pub mod EliminatedLemmas
+pub mod PrenexLemmas
+pub mod CaseLemmas
+pub mod ShortSamples
+pub mod CasesFor
+pub mod ConditionsFor
+pub mod DirectConditions
+pub mod ByCases
+pub mod PlainFormulas
+pub mod PartLemmas
+pub mod CauseLemmas
+pub mod ReadTruth
+pub mod AssumptionLemmas
+pub mod MadeLemmas
+pub mod ReadLemmas
+pub mod FromEngineAnswers

@@ -1,0 +1,9 @@
+pub mod Conditions
+pub mod Forms
+pub mod Faults
+pub mod Cases
+pub mod Refusals
+pub mod Replies
+pub mod Parts
+pub mod Reading
+pub mod FromEngineAnswers

@@ -1,0 +1,26 @@
+mod Examples
+pub mod Iff
+pub mod Values
+pub mod Listed
+pub mod Once
+pub mod Same
+pub mod Sizes
+pub mod Relations
+pub mod SamePoint
+pub mod TreeFiner
+pub mod FreeNames
+pub mod Coefficients
+pub mod Sorted
+pub mod Gathered
+pub mod PlainTruth
+pub mod Replacing
+pub mod EachAtom
+pub mod ReplacedShape
+pub mod FreeReplaced
+pub mod NormalShape
+pub mod NormalAgain
+pub mod TreeNormal
+pub mod TreeReplacing
+pub mod Fold
+pub mod Equivalence
+pub mod TreeNames

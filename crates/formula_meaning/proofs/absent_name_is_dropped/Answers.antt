@@ -1,5 +1,0 @@
-use Rattle.formula_meaning.proofs.Equivalence.{absent_dropped}
-use Rattle.formula_meaning.proofs.absent_name_is_dropped.Goals as goal
-
-pub returns : goal.returns
-returns c = absent_dropped

@@ -1,5 +1,0 @@
-use Rattle.formula_meaning.proofs.TreeNames.{names_listed}
-use Rattle.formula_meaning.proofs.free_names_are_listed.Goals as goal
-
-pub returns : goal.returns
-returns c = names_listed

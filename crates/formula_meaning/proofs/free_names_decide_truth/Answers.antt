@@ -1,5 +1,0 @@
-use Rattle.formula_meaning.proofs.FreeNames.{tree_agrees}
-use Rattle.formula_meaning.proofs.free_names_decide_truth.Goals as goal
-
-pub returns : goal.returns
-returns c = tree_agrees

@@ -1,6 +1,0 @@
-use Rattle.formula_meaning.specs.Atom.{Mentions}
-use Rattle.formula_meaning.proofs.NormalShape.{normal_form_keeps}
-use Rattle.formula_meaning.proofs.negation_normal_form_loses_no_name.Goals as goal
-
-pub returns : goal.returns
-returns c = λ opposite f x h. normal_form_keeps opposite Mentions x f h

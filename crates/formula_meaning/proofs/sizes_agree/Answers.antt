@@ -1,7 +1,0 @@
-use Rattle.std.proofs.Common.{nat_eq}
-use Rattle.formula_meaning.specs.Same.{same_atom}
-use Rattle.formula_meaning.proofs.Sizes.{subtrees_counted, distinct_count_within, height_within}
-use Rattle.formula_meaning.proofs.sizes_agree.Goals as goal
-
-pub returns : goal.returns
-returns c = λ f. record { with_repeats = subtrees_counted f; without_repeats = distinct_count_within same_atom nat_eq f; height_at_most = height_within f }

@@ -1,7 +1,0 @@
-use Rattle.std.proofs.Common.{◌≡◌, ◌++◌, drop}
-use Rattle.inner_blocks.specs.Assumed.{lacking}
-use Rattle.inner_blocks.proofs.assumed.without_names.Given as goal
-
--- the atoms so far and those of what is left are those of all
-abbrev pub invariant-loop-atom : goal.invariant-loop-atom
-invariant-loop-atom l = l.left.items ++ lacking l.names (drop l.atom-index l.theory) ≡ lacking l.names l.theory

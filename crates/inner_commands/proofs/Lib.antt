@@ -1,4 +1,0 @@
-pub mod Sizes
-pub mod Gathering
-pub mod Texts
-pub mod Inside

@@ -1,5 +1,0 @@
-use Rattle.inner_commands.proofs.Texts.{whole_numbered, ok_map}
-use Rattle.inner_commands.proofs.text.number_text.Goals as goal
-
-pub returns-clause-numbered : goal.returns-clause-numbered
-returns-clause-numbered g c = ok_map c.number_whole.result (λ n. whole_numbered _ _ _ n) c.number_whole.ensures.numbered

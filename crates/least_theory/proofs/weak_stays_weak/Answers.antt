@@ -1,5 +1,0 @@
-use Rattle.least_theory.proofs.Weak.{stays_weak}
-use Rattle.least_theory.proofs.weak_stays_weak.Goals as goal
-
-pub returns : goal.returns
-returns c = stays_weak

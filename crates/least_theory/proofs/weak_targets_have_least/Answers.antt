@@ -1,5 +1,0 @@
-use Rattle.least_theory.proofs.WeakTargets.{targets_have_least}
-use Rattle.least_theory.proofs.weak_targets_have_least.Goals as goal
-
-pub returns : goal.returns
-returns c = targets_have_least

@@ -1,5 +1,0 @@
-use Rattle.least_theory.proofs.WeakTargets.{targets_suit}
-use Rattle.least_theory.proofs.weak_targets_suit.Goals as goal
-
-pub returns : goal.returns
-returns c = targets_suit

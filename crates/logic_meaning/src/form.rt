@@ -1,0 +1,5 @@
+/// The number of a name.
+#[derive(Clone, Copy, Debug, PartialEq, Eq, PartialOrd, Ord, Hash)]
+pub struct VarId {
+    pub number: usize,
+}

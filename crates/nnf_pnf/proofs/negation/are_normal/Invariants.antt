@@ -1,7 +1,0 @@
-use Rattle.std.proofs.Common.{take}
-use Rattle.std.specs.List.{AllByRecursion}
-use Rattle.nnf_pnf.specs.Normal.{BeginsNormal}
-use Rattle.nnf_pnf.proofs.negation.are_normal.Given as goal
-
-abbrev pub invariant-loop-id : goal.invariant-loop-id
-invariant-loop-id l = AllByRecursion (BeginsNormal l.store) (take l.id-index l.ids)

@@ -1,4 +1,0 @@
-pub mod Placed
-pub mod FromEliminationReference
-pub mod FromEliminationTheory
-pub mod FromTestPoints

@@ -1,0 +1,13 @@
+pub mod Atoms
+pub mod AtomTruth
+pub mod Laws
+pub mod Bounds
+pub mod AtomMergingLaws
+pub mod Verdicts
+pub mod Classes
+pub mod Positions
+pub mod Merged
+pub mod Junctions
+pub mod Answered
+pub mod Computed
+pub mod FromLinearForms

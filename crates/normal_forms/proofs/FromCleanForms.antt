@@ -1,2 +1,0 @@
--- What the crates above name of `clean_forms`.
-pub use Rattle.clean_forms.proofs.FormShapes.{form_free}

@@ -1,6 +1,0 @@
-use Rattle.formula_meaning.specs.Sizes.{nodes}
-use Rattle.nnf_trees.specs.Nnfs.{nnf_of}
-use Rattle.plain_cases.proofs.chain.+leaves.Given as goal
-
-abbrev pub decreases-leaves : goal.decreases-leaves
-decreases-leaves l = nodes (nnf_of l.f.now)

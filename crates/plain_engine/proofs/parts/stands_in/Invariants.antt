@@ -1,7 +1,0 @@
-use Rattle.std.proofs.Common.{◌≡◌, drop, nat_eq}
-use Rattle.formula_meaning.specs.Shape.{is_in}
-use Rattle.plain_engine.specs.Told.{numbers}
-use Rattle.plain_engine.proofs.parts.stands_in.Given as goal
-
-abbrev pub invariant-loop-name : goal.invariant-loop-name
-invariant-loop-name l = is_in nat_eq l.x.number (numbers (drop l.name-index l.names)) ≡ is_in nat_eq l.x.number (numbers l.names)

@@ -1,2 +1,0 @@
--- What the crates above name of `session_state`.
-pub use Rattle.problem_reading.specs.FromSessionState.{GrowsState, HasAnswers, HasIds, IsScripted, IsSessionFormula, IsSessionState, IsSound, KeepsState, SessionState, answered_tree, state_of}

@@ -1,5 +1,0 @@
-use Rattle.prenex_theory.proofs.Whole.{is_prenex, has_fewest_blocks}
-use Rattle.prenex_theory.proofs.prenex_form_has_fewest_blocks.Goals as goal
-
-pub returns : goal.returns
-returns c = record { prenex = is_prenex; fewest = has_fewest_blocks }

@@ -1,5 +1,0 @@
-use Rattle.prenex_theory.proofs.Whole.{is_normal}
-use Rattle.prenex_theory.proofs.prenex_form_is_normal.Goals as goal
-
-pub returns : goal.returns
-returns c = is_normal

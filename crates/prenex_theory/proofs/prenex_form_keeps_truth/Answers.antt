@@ -1,5 +1,0 @@
-use Rattle.prenex_theory.proofs.Whole.{keeps_truth}
-use Rattle.prenex_theory.proofs.prenex_form_keeps_truth.Goals as goal
-
-pub returns : goal.returns
-returns c = keeps_truth

@@ -1,5 +1,0 @@
-use Rattle.printed_formulas.proofs.Echo.{text_is_read_back}
-use Rattle.printed_formulas.proofs.laws.printed_text_is_read_back.Goals as goal
-
-pub returns : goal.returns
-returns c = text_is_read_back

@@ -1,5 +1,0 @@
-use Rattle.printed_formulas.proofs.Accepted.{written_is_resolved}
-use Rattle.printed_formulas.proofs.laws.written_formula_is_resolved.Goals as goal
-
-pub returns : goal.returns
-returns c = written_is_resolved

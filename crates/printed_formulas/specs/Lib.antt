@@ -1,4 +1,0 @@
-pub mod Written
-pub mod Printed
-pub mod Levels
-pub mod Round

@@ -1,0 +1,13 @@
+pub mod Seen
+pub mod Arms
+pub mod Paying
+pub mod Readiness
+pub mod Parting
+pub mod TreePuts
+pub mod PointPut
+pub mod Standing
+pub mod Stepping
+pub mod Chaining
+pub mod Moduli
+pub mod StillThere
+pub mod FormAgain

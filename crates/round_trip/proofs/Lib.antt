@@ -1,0 +1,15 @@
+pub mod Lexed
+pub mod Tokens
+pub mod Spelled
+pub mod Shallow
+pub mod Deep
+pub mod Echo
+pub mod Forms
+pub mod Places
+pub mod Back
+pub mod Accepted
+pub mod Answered
+pub mod Bare
+pub mod InnerNames
+pub mod LeastAlone
+pub mod Printed

@@ -1,0 +1,5 @@
+pub mod Written
+pub mod Printed
+pub mod Levels
+pub mod Round
+pub mod ReadBack

@@ -1,7 +1,0 @@
-use Rattle.std.proofs.Common.{drop}
-use Rattle.sample_reference.specs.Seen.{values_of}
-use Rattle.sample_numbers.proofs.OneDenominator.{AreOverBefore}
-use Rattle.sample_numbers.proofs.denominators.values_over.Given as goal
-
-abbrev pub invariant-loop-value : goal.invariant-loop-value
-invariant-loop-value l = AreOverBefore l.denominator (values_of l.found) (values_of (drop l.value-index l.found)) l.values

@@ -1,5 +1,0 @@
-use Rattle.sample_theory.proofs.Found.{sample_of_answers}
-use Rattle.sample_theory.proofs.laws.sample_of_answers_is_true.Goals as goal
-
-pub returns : goal.returns
-returns c = sample_of_answers

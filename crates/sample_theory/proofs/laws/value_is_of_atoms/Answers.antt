@@ -1,5 +1,0 @@
-use Rattle.sample_theory.proofs.CriticalSet.{value_of_atoms}
-use Rattle.sample_theory.proofs.laws.value_is_of_atoms.Goals as goal
-
-pub returns : goal.returns
-returns c = value_of_atoms

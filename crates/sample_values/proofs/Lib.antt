@@ -1,2 +1,0 @@
-pub mod Leasts
-pub mod FromPlainEngine

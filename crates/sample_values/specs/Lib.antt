@@ -1,2 +1,0 @@
-pub mod FromPlainEngine
-pub mod FromTracedCases

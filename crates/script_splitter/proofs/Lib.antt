@@ -1,4 +1,0 @@
-pub mod Spans
-pub mod Fronts
-pub mod Places
-pub mod Following

@@ -1,3 +1,0 @@
-mod Examples
-pub mod Constants
-pub mod Witnesses

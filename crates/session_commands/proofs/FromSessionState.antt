@@ -1,2 +1,0 @@
--- What the crates above name of `session_state`.
-pub use Rattle.point_queries.proofs.FromSessionState.{AllVariables, AreSessionFormulas, all_put_in, both, negated_formula, resolved_formula, variables_of_all}

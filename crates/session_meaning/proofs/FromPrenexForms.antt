@@ -1,3 +1,0 @@
--- What the crates above name of `prenex_forms`.
-pub use Rattle.prenex_forms.proofs.Finished.{bound_normal_form, finished, length_more}
-pub use Rattle.prenex_forms.proofs.FoundNames.{any_among}

@@ -1,3 +1,0 @@
-mod Examples
-pub mod FromAnswerTexts
-pub mod FromPrenexForms

@@ -1,0 +1,43 @@
+mod Examples
+pub mod FreeTests
+pub mod Keeps
+pub mod Joining
+pub mod Sound
+pub mod Sizes
+pub mod Nodes
+pub mod Shape
+pub mod Simplified
+pub mod Bound
+pub mod AtomLaws
+pub mod Wider
+pub mod TreeLaws
+pub mod Limited
+pub mod Digits
+pub mod Measured
+pub mod Widths
+pub mod Longer
+mod PrenexTheoryExamples
+pub mod Blocks
+pub mod Fronts
+pub mod NamedAtoms
+pub mod Used
+pub mod Renamed
+pub mod RenamedTruth
+pub mod AtomNames
+pub mod Shapes
+pub mod Whole
+mod CleanFormsExamples
+pub mod Inserting
+pub mod Joins
+pub mod Absorbed
+pub mod Under
+pub mod Shown
+pub mod Pieces
+pub mod LinesTrue
+pub mod FormsTrue
+pub mod FormShapes
+pub mod FormSizes
+pub mod CleanFormsWidths
+pub mod CleanFormsTreeLaws
+pub mod Places
+pub mod Counts

@@ -1,0 +1,14 @@
+pub mod Kit
+pub mod Orderly
+pub mod Pass
+pub mod NodeMeasure
+pub mod AtomKit
+pub mod Simplifiable
+pub mod Laws
+pub mod Texts
+pub mod Links
+pub mod Theorems
+pub mod Places
+pub mod Lines
+pub mod Counts
+pub mod CleanFormsLaws

@@ -1,3 +1,0 @@
-pub mod Moduli
-pub mod StillThere
-pub mod FormAgain

@@ -1,8 +1,0 @@
-use Rattle.std.proofs.Common.{sym, subst}
-use Rattle.formula_meaning.specs.Every.{Every}
-use Rattle.formula_meaning.specs.Numbers.{IsAtomInLimit}
-use Rattle.formula_store.proofs.Numbers.{numbers_are_within}
-use Rattle.shared_forms.proofs.guards.unfolded.Goals as goal
-
-pub returns-in-Ok-clause-numbers : goal.returns-in-Ok-clause-numbers
-returns-in-Ok-clause-numbers c = subst (Every IsAtomInLimit) (sym c.in-Ok.ensures.tree) (numbers_are_within c.args.store.now c.args.id c.requires)

@@ -1,4 +1,0 @@
-pub mod Digits
-pub mod Measured
-pub mod Widths
-pub mod Longer

@@ -1,0 +1,2 @@
+/// No more parentheses than these are open at once.
+pub const DEPTH_LIMIT: usize = 512;

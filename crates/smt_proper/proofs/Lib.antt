@@ -1,4 +1,0 @@
-mod ProperTokens
-mod ProperTrees
-mod ProperExpressions
-pub mod Spelled

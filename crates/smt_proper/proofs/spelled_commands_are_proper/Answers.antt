@@ -1,5 +1,0 @@
-use Rattle.smt_proper.proofs.Spelled.{spelled_proper}
-use Rattle.smt_proper.proofs.spelled_commands_are_proper.Goals as goal
-
-pub returns : goal.returns
-returns c = spelled_proper

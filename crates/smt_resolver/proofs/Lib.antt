@@ -1,0 +1,16 @@
+pub mod FrameLaws
+pub mod Lists
+pub mod TermLaws
+pub mod PartLists
+pub mod FormulaLaws
+pub mod ChainLaws
+pub mod OperatorLaws
+pub mod ReadingLaws
+pub mod Sizes
+pub mod MemberLaws
+pub mod Written
+pub mod Steps
+pub mod KnownLaws
+pub mod Possible
+pub mod Assertions
+pub mod Examples

@@ -1,9 +1,0 @@
-pub mod State
-pub mod Words
-pub mod AssertionWords
-pub mod Sentence
-pub mod Checks
-pub mod Texts
-pub mod Causes
-pub mod Replies
-pub mod Run

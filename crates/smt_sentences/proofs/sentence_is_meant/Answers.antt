@@ -1,5 +1,0 @@
-use Rattle.smt_sentences.proofs.Meant.{sentence_is_meant}
-use Rattle.smt_sentences.proofs.sentence_is_meant.Goals as goal
-
-pub returns : goal.returns
-returns c = sentence_is_meant

@@ -1,2 +1,0 @@
-pub mod Resolvable
-pub mod Resolved

@@ -1,2 +1,0 @@
-pub mod Spacing
-pub mod Places

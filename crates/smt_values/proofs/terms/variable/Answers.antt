@@ -1,5 +1,0 @@
-use Rattle.smt_values.proofs.TermLaws.{level_variable}
-use Rattle.smt_values.proofs.terms.variable.Goals as goal
-
-pub returns : goal.returns
-returns c = λ d. (c.in-Some.ensures.0, c.in-Some.ensures.1, level_variable d c.args.number c.in_ok-read.read (c.in_ok-read.ensures d))

@@ -1,7 +1,0 @@
-use Rattle.std.proofs.Common.{◌≡◌, map, drop}
-use Rattle.smt_words.specs.Words.{known}
-use Rattle.smt_words.specs.WordPairs.{word_pair}
-use Rattle.smt_words.proofs.word.among.Given as goal
-
-abbrev pub invariant-entries : goal.invariant-entries
-invariant-entries l = known l.text (map word_pair l.entries) ≡ known l.text (map word_pair (drop l.entry-index l.entries))

@@ -1,0 +1,2 @@
+-- What the crates above name of `engine_answers`.
+pub use Rattle.engine_answers.specs.declared.limits.Limits.{Limits}

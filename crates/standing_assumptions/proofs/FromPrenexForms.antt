@@ -1,2 +1,0 @@
--- What the crates above name of `prenex_forms`.
-pub use Rattle.session_meaning.proofs.FromPrenexForms.{any_among, bound_normal_form, finished, length_more}

@@ -1,3 +1,0 @@
-mod Growing
-pub mod FromAnswerTexts
-pub mod FromPrenexForms

@@ -1,9 +1,0 @@
-pub mod Statements
-pub mod Inner
-pub mod Texts
-pub mod LastTokens
-pub mod CodeTrees
-pub mod Constraints
-pub mod ConstraintLists
-pub mod QuantifiedNames
-pub mod Writable

@@ -1,6 +1,0 @@
-use Rattle.std.proofs.Common.{◌≡◌, ◌++◌}
-use Rattle.stored_texts.specs.Texts.{brackets}
-use Rattle.stored_texts.proofs.text.put_brackets.Given as goal
-
-abbrev pub invariant-loop-closed : goal.invariant-loop-closed
-invariant-loop-closed l = l.out ≡ l.initial.out ++ brackets l._closed

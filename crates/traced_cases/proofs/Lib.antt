@@ -1,5 +1,0 @@
-pub mod Choosing
-pub mod Walking
-pub mod Rooting
-pub mod Finding
-pub mod FromPlainEngine

@@ -1,6 +1,0 @@
-pub mod Steps
-pub mod Replay
-pub mod Rooted
-pub mod First
-pub mod FromPlainEngine
-pub mod FromSampleReference

@@ -1,0 +1,17 @@
+pub mod TreeEquations
+pub mod NameOrder
+pub mod EntryLists
+pub mod EntryNumbers
+pub mod TermParts
+pub mod FormulaParts
+pub mod ValueLaw
+pub mod CongruenceLaw
+pub mod TruthLaw
+pub mod Quantified
+pub mod WritableLemmas
+pub mod NameSearch
+pub mod OnePoint
+pub mod Examples
+pub mod Alone
+pub mod InnerCommands
+pub mod Constrained

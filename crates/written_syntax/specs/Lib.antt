@@ -1,0 +1,14 @@
+pub mod CodeTrees
+pub mod Proper
+pub mod PointNumbers
+pub mod PointFaults
+pub mod FreeNames
+pub mod Rule
+pub mod Testable
+pub mod Evaluates
+pub mod Valued
+pub mod Writable
+pub mod LastTokens
+pub mod StatementSyntaxCodeTrees
+pub mod ConstraintLists
+pub mod StatementSyntaxWritable
