@@ -17,7 +17,7 @@ mod table;
 
 pub use directions::Directions;
 pub use implied::are_implied;
-pub use outlook::{Outlook, may_be_pruned};
+pub use outlook::may_be_pruned;
 pub use pruning::{Pruned, are_impossible, kept};
 pub use rows::AtomRows;
 pub use sample::Sample;

@@ -24,7 +24,7 @@ struct Left {
 /// and no clause says anything of it. Rows in which a name stands that no other row can cancel have no part in a contradiction, so they
 /// go in turn; and where no constant is positive, none that is negative is of use.
 #[derive(Drop)]
-pub struct Outlook {
+pub(crate) struct Outlook {
     entries: Vec<Entry>,
     /// The signs of all rows, and those that two of them have.
     once: Signs,
@@ -37,7 +37,7 @@ pub struct Outlook {
 
 impl Outlook {
     /// That of the atoms and the assumptions with these rows. Its only error is want of memory.
-    pub fn of(
+    pub(crate) fn of(
         alloc: Global,
         assumed: &[AtomRows],
         atoms: &[AtomRows],
@@ -105,22 +105,14 @@ impl Outlook {
         self.entries.iter().any(|entry| entry.left)
     }
 
-    /// Whether the rows, which are no contradiction, may imply the atom with these rows: its negation has a row, which can have a part in
-    /// a contradiction.
-    pub fn may_imply(&mut self, rows: &AtomRows) -> bool {
-        match Part::of_negated_row(rows) {
-            Some(negation) => self.may_refute(None, negation),
-            None => false,
-        }
-    }
-
-    /// The same where the rows of the atom stand at a place, and the others are to imply it.
+    /// Whether the rows, which are no contradiction, may imply the atom whose rows stand at a place, without these: its negation has a row,
+    /// which can have a part in a contradiction.
     pub(crate) fn may_be_implied(&mut self, place: usize, rows: &AtomRows) -> bool {
         if self.needed.get(place).copied().unwrap_or(false) {
             return false;
         }
         match Part::of_negated_row(rows) {
-            Some(negation) => self.may_refute(Some(place), negation),
+            Some(negation) => self.may_refute(place, negation),
             None => false,
         }
     }
@@ -133,11 +125,11 @@ impl Outlook {
     }
 
     // Whether the rows but for that at a place, which are no contradiction, may be one with this.
-    fn may_refute(&mut self, without: Option<usize>, asked: Part) -> bool {
+    fn may_refute(&mut self, without: usize, asked: Part) -> bool {
         if !asked.is_cancelled_by(self.signs_without(without)) {
             return false;
         }
-        let leaves_negative = self.begin(without, asked.constant);
+        let leaves_negative = self.begin(Some(without), asked.constant);
         if leaves_negative && asked.constant < 0 {
             return false;
         }
@@ -145,7 +137,7 @@ impl Outlook {
     }
 
     // The signs of all rows but for that at a place.
-    fn signs_without(&self, without: Option<usize>) -> Signs {
+    fn signs_without(&self, without: usize) -> Signs {
         match self.part(without) {
             Some(own) => self.twice.and(self.once.without(own.signs)),
             None => self.once,
@@ -153,8 +145,8 @@ impl Outlook {
     }
 
     // The row at a place.
-    fn part(&self, place: Option<usize>) -> Option<Part> {
-        self.entries.get(place?)?.part
+    fn part(&self, place: usize) -> Option<Part> {
+        self.entries.get(place)?.part
     }
 
     // Begins with all rows but for that at a place. Where neither a row has a positive constant nor this is positive, leaves out the rows

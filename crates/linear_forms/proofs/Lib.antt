@@ -10,7 +10,6 @@ pub mod Lookups
 pub mod Steps
 pub mod Determined
 pub mod Equal
-pub mod Finer
 pub mod Reduced
 pub mod Quotients
 pub mod Residues

@@ -1,9 +1,9 @@
 // Whole numbers for names over one denominator, and the value of a form at them.
-ghost use Rattle.std.specs.Prelude.{◌≡◌, ℕ, pos, [], ◌<ℤ◌, OnOk, OnErr, IfErr, IsErrOf, IfOk, MatchOption, map, nat_eq, if◌then◌else◌};
+ghost use Rattle.std.specs.Prelude.{◌≡◌, ℕ, pos, [], ◌<ℤ◌, OnOk, OnErr, IfErr, IfOk, map, nat_eq, if◌then◌else◌};
 ghost use Rattle.logic_meaning.specs.Form.{value};
 ghost use Rattle.logic_meaning.specs.Terms.{total_steps};
 ghost use Rattle.linear_forms.specs.Linear.{terms_of};
-ghost use Rattle.linear_forms.specs.Values.{number_at, number_of, IsFiner, FinerPasses};
+ghost use Rattle.linear_forms.specs.Values.{number_at, number_of};
 ghost use Rattle.std.specs.Map.{keys_of};
 
 use crate::error::LinError;
@@ -75,29 +75,6 @@ impl Values {
             names.push(VarId { number: *name })?;
         }
         Ok(names)
-    }
-
-    /// The same values over a multiple of the denominator: each number is multiplied by the factor, as the denominator is.
-    /// `Overflow` comes exactly where one of them passes 2^127 - 1 then, else `Memory`.
-    pub fn finer(&self, alloc: Global, factor: i128) -> Result<Values, LinError>
-        requires { pos 0 <ℤ factor }
-        ensures finer { IfOk result (IsFiner factor self.now) }
-        ensures overflow { IsErrOf result LinError.Overflow → FinerPasses factor self.now }
-    {
-        let Some(denominator) = product(factor, self.denominator()) else {
-            return Err(LinError::Overflow);
-        };
-        let mut finer = Values::new(alloc, denominator);
-        for name in self.numbers.keys() {
-            let v = VarId { number: *name };
-            let Some(multiple) = product(factor, self.get(v)) else {
-                return Err(LinError::Overflow);
-            };
-            if let Err(_failed) = finer.put(v, multiple) {
-                return Err(LinError::Memory);
-            }
-        }
-        Ok(finer)
     }
 
     /// The denominator.

@@ -35,7 +35,7 @@ use std::alloc::{AllocError, Global};
 
 /// The clean disjunctive form of a formula in negation normal form: a disjunction of conjunctions of atoms, none of which
 /// has two atoms that merge or contains all atoms of another. It has no more tree nodes and no longer text than the plain
-/// inner, which only folds constants and distributes `and` over `or`. `Quantified` comes exactly where a quantifier stands in
+/// form, which only folds constants and distributes `and` over `or`. `Quantified` comes exactly where a quantifier stands in
 /// the formula. `Nodes` comes only where the plain form has more than `limit` places of atoms, which are counted before
 /// anything is multiplied out; else `Memory`. The formulas of the store stay.
 ///
@@ -67,7 +67,7 @@ pub fn dnf(
     normal_form(alloc, store, context, Junction::Conjunction, id, limit)
 }
 
-/// The clean conjunctive form of a formula in negation normal inner, the dual of `dnf`: a conjunction of disjunctions of
+/// The clean conjunctive form of a formula in negation normal form, the dual of `dnf`: a conjunction of disjunctions of
 /// atoms, none of which has two atoms that merge or contains all atoms of another. Its sizes, its errors and what stays are
 /// as there, with the plain form that distributes `or` over `and`.
 pub fn cnf(
@@ -96,7 +96,7 @@ pub fn cnf(
     normal_form(alloc, store, context, Junction::Disjunction, id, limit)
 }
 
-// The clean inner, of either kind.
+// The clean form, of either kind.
 fn normal_form(
     alloc: Global,
     store: &mut Store,

@@ -19,7 +19,7 @@ use logic_meaning::Junction;
 use std::alloc::{AllocError, Global};
 use std::collections::HashMap;
 
-/// The inner lists and the places of atoms of a plain inner, 2^64 - 1 where there are more.
+/// The inner lists and the places of atoms of a plain form, 2^64 - 1 where there are more.
 #[derive(Clone, Copy)]
 pub(crate) struct Sizes {
     pub(crate) lines: u64,

@@ -20,9 +20,8 @@ pub use literals::Literals;
 pub use point::{Point, PointFault};
 pub use statement::{Action, Command, Statement};
 pub use tree::{
-    Formula, Formulas, InnerCommand, Term, Terms, answered, comparison, congruence, equivalence,
-    existential, implication, incongruence, negation, negative, power, quotient, replication,
-    universal,
+    Formula, Formulas, InnerCommand, Term, Terms, answered, comparison, equivalence, existential,
+    implication, negation, negative, power, quotient, replication, universal,
 };
 pub use truth::truth_at;
 pub use value::{EvalError, value_at};

@@ -1,5 +1,5 @@
 ghost use Rattle.std.specs.Prelude.{◌≡◌, map, IfOk};
-ghost use Rattle.language_meaning.specs.Trees.{terms_of, Quotient, Power, Negative, Compare, Cong, Ncong};
+ghost use Rattle.language_meaning.specs.Trees.{terms_of, Quotient, Power, Negative, Compare};
 ghost use Rattle.language_meaning.specs.Holes.{whole, over, over_both, all_of, computed};
 ghost use Rattle.written_syntax.specs.CodeTrees.{term_tree, term_trees, whole_formula, whole_formulas, whole_command};
 ghost use Rattle.logic_meaning.specs.Formula.{One, Not, Impl, Repl, Equiv, Ex, All};
@@ -175,38 +175,6 @@ pub fn comparison(
     let left = Box::new(alloc, left)?;
     let right = Box::new(alloc, right)?;
     Ok(Formula::Compare(relation, left, right))
-}
-
-/// The congruence of two terms modulo a third: `cong(left, right, modulus)`.
-#[tactic(auto, using(crate::proofs::TreeEquations::trees, crate::proofs::TreeEquations::wholes))]
-pub fn congruence(
-    alloc: Global,
-    left: Term,
-    right: Term,
-    modulus: Term,
-) -> Result<Formula, AllocError>
-    ensures { IfOk result (λ f. whole_formula f ≡ whole (One (Cong (term_tree left) (term_tree right) (term_tree modulus)))) }
-{
-    let left = Box::new(alloc, left)?;
-    let right = Box::new(alloc, right)?;
-    let modulus = Box::new(alloc, modulus)?;
-    Ok(Formula::Cong(left, right, modulus))
-}
-
-/// The negated congruence of two terms modulo a third: `ncong(left, right, modulus)`.
-#[tactic(auto, using(crate::proofs::TreeEquations::trees, crate::proofs::TreeEquations::wholes))]
-pub fn incongruence(
-    alloc: Global,
-    left: Term,
-    right: Term,
-    modulus: Term,
-) -> Result<Formula, AllocError>
-    ensures { IfOk result (λ f. whole_formula f ≡ whole (One (Ncong (term_tree left) (term_tree right) (term_tree modulus)))) }
-{
-    let left = Box::new(alloc, left)?;
-    let right = Box::new(alloc, right)?;
-    let modulus = Box::new(alloc, modulus)?;
-    Ok(Formula::Ncong(left, right, modulus))
 }
 
 /// The formula `premise impl conclusion`.
