@@ -233,7 +233,7 @@ pub fn may_be_pruned(
     }
     for (place, atom) in atoms.iter().enumerate() {
         if let Some(negation) = Part::of_negation(context, atom)
-            && outlook.may_refute(Some(place), negation)
+            && outlook.may_refute(place, negation)
         {
             return Ok(true);
         }
