@@ -1,6 +1,6 @@
 # make                    builds the proved program and leaves it at bin/redlog
 # make test               proves everything, and runs the tests and the edits that the proofs must refuse
-# make install PREFIX=..  copies the program, its manual page, its documents and its Vim files to PREFIX
+# make install PREFIX=..  copies the program, its manual page, its documents, its Vim files and the driver of why3 to PREFIX
 # make uninstall          takes them away again
 # make deb                builds a package of these, which dpkg -i installs
 
@@ -35,10 +35,12 @@ install: bin/redlog
 	install -m 644 $(PAGES) $(DESTDIR)$(PREFIX)/share/doc/redlog/docs
 	install -D -m 644 editors/vim/syntax/redlog.vim $(DESTDIR)$(PREFIX)/share/vim/vimfiles/syntax/redlog.vim
 	install -D -m 644 editors/vim/ftdetect/redlog.vim $(DESTDIR)$(PREFIX)/share/vim/vimfiles/ftdetect/redlog.vim
+	install -D -m 644 clients/why3/redlog.drv $(DESTDIR)$(PREFIX)/share/redlog/why3/redlog.drv
+	install -D -m 755 clients/why3/redlog-why3 $(DESTDIR)$(PREFIX)/share/redlog/why3/redlog-why3
 
 uninstall:
 	rm -f $(DESTDIR)$(PREFIX)/bin/redlog $(DESTDIR)$(PREFIX)/share/man/man1/redlog.1
-	rm -rf $(DESTDIR)$(PREFIX)/share/doc/redlog
+	rm -rf $(DESTDIR)$(PREFIX)/share/doc/redlog $(DESTDIR)$(PREFIX)/share/redlog
 	rm -f $(DESTDIR)$(PREFIX)/share/vim/vimfiles/syntax/redlog.vim $(DESTDIR)$(PREFIX)/share/vim/vimfiles/ftdetect/redlog.vim
 
 deb: bin/redlog
