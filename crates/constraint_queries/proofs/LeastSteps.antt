@@ -28,8 +28,8 @@ use Rattle.form_commands.proofs.ShortSamples.{AreShort, variables_short, fractio
 use Rattle.logic_meaning.specs.Names.{with_name, place}
 use Rattle.form_commands.specs.Reading.{IsReadable}
 use Rattle.session_state.proofs.VariableLemmas.{AllVariables}
-use Rattle.session_state.proofs.NameLemmas.{grows_then, place_below}
-use Rattle.session_state.proofs.StateLemmas.{grown_state, grown_session}
+use Rattle.session_state.proofs.NameLemmas.{place_below}
+use Rattle.session_state.proofs.StateLemmas.{grows_then, grown_state, grown_session}
 use Rattle.session_state.proofs.KnownLemmas.{known_formulas}
 use Rattle.language_meaning.specs.Causes.{most_height, height_in_place}
 use Rattle.language_meaning.specs.Resolving.{BoundTrees, formula_variables}

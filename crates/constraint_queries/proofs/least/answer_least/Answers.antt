@@ -8,7 +8,7 @@ use Rattle.language_meaning.specs.Statements.{Least}
 use Rattle.session_state.specs.Numbered.{numbered}
 use Rattle.program_meaning.specs.Meaning.{meaning}
 use Rattle.session_state.specs.Keeping.{state_of}
-use Rattle.session_state.proofs.NameLemmas.{grows_then}
+use Rattle.session_state.proofs.StateLemmas.{grows_then}
 use Rattle.form_commands.specs.Replies.{use_of, Refuses}
 use Rattle.constraint_queries.specs.Found.{found_of, IsTargetFound, FoundStop}
 use Rattle.constraint_queries.proofs.ProblemSteps.{problem_proper}
