@@ -28,8 +28,7 @@ use Rattle.program_meaning.specs.Words.{before}
 use Rattle.session_state.specs.declared.state.SessionState.{SessionState}
 use Rattle.session_state.specs.Keeping.{state_of, IsSessionFormula, IsSound, IsSessionState}
 use Rattle.session_state.specs.Growth.{KeepsState, GrowsState}
-use Rattle.session_state.proofs.StateLemmas.{state_parts, same_state, same_session, sound_with, length_grows, keeps_itself}
-use Rattle.session_state.proofs.NameLemmas.{grows_then}
+use Rattle.session_state.proofs.StateLemmas.{state_parts, same_state, same_session, sound_with, length_grows, keeps_itself, grows_then}
 use Rattle.session_state.proofs.VariableLemmas.{AllVariables, variables_of_all, all_put_in}
 use Rattle.resolved_formulas.proofs.PlaceLaws.{after_has, after_distinct}
 use Rattle.language_meaning.specs.Value.{same_name}
