@@ -113,14 +113,18 @@ positive_within : (z : ℤ) → pos 0 <ℤ z → InLimit z → InLimit (pos (uns
 positive_within (pos n) p h = h
 positive_within (negsuc n) p h = absurd (omega (arith, ints, p))
 
--- the places of test points have sorted forms and numbers within the limit
+-- the place of a test point has a sorted form and numbers within the limit
+pub point_numbers : (t : TestPoint) → IsTestPoint t → IsSortedPlace (answer_of t).place × PlaceWithin (answer_of t).place
+point_numbers t w = (place_sorted t.place t.form _ t.period w.linear, place_numbers t.place t.form _ t.period w.linear (positive_within t.over w.positive w.over_within) w.period_within)
+
+-- so have those of all
 pub points_over : (c : Context) (P : ℕ → Type 0) (ts : List TestPoint) → AllByRecursion IsTestPoint ts → EachOf (λ (a : Answer). IsPlaceIn c a.place) (map answer_of ts) → AreOver P (map answer_of ts) → AreAnswersOver c P (map answer_of ts)
 points_over c P [] w i o = tt
 points_over c P (t ∷ ts) w i o = (
   record {
     place = i.0;
-    sorted = place_sorted t.place t.form _ t.period w.0.linear;
-    within = place_numbers t.place t.form _ t.period w.0.linear (positive_within t.over w.0.positive w.0.over_within) w.0.period_within;
+    sorted = (point_numbers t w.0).0;
+    within = (point_numbers t w.0).1;
     names = o.0;
   },
   points_over c (λ y. P y ⊎ (t.name.number ≡ y)) ts w.1 i.1 o.1,

@@ -7,6 +7,10 @@ pub mod CasesFor
 pub mod ConditionsFor
 pub mod DirectConditions
 pub mod ByCases
+pub mod LowestTerms
+pub mod LowestPlaces
+pub mod LowestAnswers
+pub mod LowestCases
 pub mod PlainFormulas
 pub mod PartLemmas
 pub mod CauseLemmas

@@ -2,6 +2,7 @@ pub mod Conditions
 pub mod Forms
 pub mod Faults
 pub mod Cases
+pub mod Lowest
 pub mod Refusals
 pub mod Replies
 pub mod Parts

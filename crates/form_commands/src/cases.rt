@@ -11,10 +11,12 @@ ghost use Rattle.formula_tree.specs.Makers.{Keeps};
 ghost use Rattle.formula_store.specs.Nodes.{tree, IsId};
 ghost use Rattle.form_commands.specs.Faults.{CasesFault};
 ghost use Rattle.form_commands.specs.Cases.{AreCasesFor, AreCasesBy};
+ghost use Rattle.form_commands.specs.Lowest.{AreLowest, AreLowestBy};
 
 use crate::error::{FormsError, measured_error};
 use crate::forms::Premised;
 use crate::guards::left_guards;
+use crate::lowest::lowest_cases;
 use crate::references::reference_list;
 use crate::way::Way;
 use engine_answers::Engine;
@@ -25,7 +27,8 @@ use reference_engine::PrintedCase;
 use std::thread::Threads;
 
 /// The cases of what was read, found in this way, with their guards simplified under the atoms, and without those whose guard becomes
-/// false. `Overflow` and `Nodes` come only where the reference elimination stops so.
+/// false. Those found by cases have their answers in lowest terms. `Overflow` and `Nodes` come only where the reference elimination
+/// stops so.
 pub fn wanted_cases<R: Threads + Sync, G: Gate + Sync>(
     engine: &Engine<'_, R, G>,
     store: &mut Store,
@@ -38,6 +41,7 @@ pub fn wanted_cases<R: Threads + Sync, G: Gate + Sync>(
     requires atoms { EachOf (IsNormal (context_of engine.now.context)) (map atom_of read.now.atoms.items) }
     requires well_formed { AllByRecursion IsWellFormed read.now.atoms.items }
     ensures cases { IfOk result (λ v. AreCasesBy way (context_of engine.now.context) (map atom_of read.now.atoms.items) engine.now.limits.nodes (tree store.old read.now.formula) (map case_seen v.items)) }
+    ensures lowest { IfOk result (λ v. AreLowestBy way (map case_seen v.items)) }
     ensures points { IfOk result (λ v. HavePoints v.items) }
     ensures fault { IfErr result (CasesFault (context_of engine.now.context) engine.now.limits.nodes (tree store.old read.now.formula)) }
     ensures kept { Keeps (IsId store.old) (tree store.old) (IsId store.new) (tree store.new) }
@@ -51,7 +55,7 @@ pub fn wanted_cases<R: Threads + Sync, G: Gate + Sync>(
     }
 }
 
-/// The cases that the engine finds, as they are left under the atoms.
+/// The cases that the engine finds, as they are left under the atoms, with their answers in lowest terms.
 fn cases_by_cases<R: Threads + Sync, G: Gate + Sync>(
     engine: &Engine<'_, R, G>,
     store: &mut Store,
@@ -64,6 +68,7 @@ fn cases_by_cases<R: Threads + Sync, G: Gate + Sync>(
     requires atoms { EachOf (IsNormal (context_of engine.now.context)) (map atom_of atoms.now) }
     requires well_formed { AllByRecursion IsWellFormed atoms.now }
     ensures cases { IfOk result (λ v. AreCasesFor (context_of engine.now.context) (map atom_of atoms.now) (tree store.old id) (map case_seen v.items)) }
+    ensures lowest { IfOk result (λ v. AreLowest (map case_seen v.items)) }
     ensures points { IfOk result (λ v. HavePoints v.items) }
     ensures fault { IfErr result (CasesFault (context_of engine.now.context) engine.now.limits.nodes (tree store.old id)) }
     ensures kept { Keeps (IsId store.old) (tree store.old) (IsId store.new) (tree store.new) }
@@ -72,7 +77,11 @@ fn cases_by_cases<R: Threads + Sync, G: Gate + Sync>(
         Ok(case_tree) => case_tree,
         Err(error) => return Err(measured_error(error)),
     };
-    match left_guards(engine.alloc, store, engine.context, case_tree.cases, atoms) {
+    let left = left_guards(engine.alloc, store, engine.context, case_tree.cases, atoms);
+    let Ok(left) = left else {
+        return Err(FormsError::Memory);
+    };
+    match lowest_cases(engine.alloc, left) {
         Ok(cases) => Ok(cases),
         Err(_) => Err(FormsError::Memory),
     }

@@ -9,6 +9,7 @@ mod error;
 mod forms;
 mod guards;
 mod lines;
+mod lowest;
 mod reading;
 mod references;
 mod refusals;
