@@ -1,7 +1,7 @@
 //! Makes the calls that no statement makes, on formulas worked by hand: a maker of plain trees, a formula unfolded under a
-//! limit, a tree printed by itself, the cases of a tree, and the sample of one without free names; those of the lowest crates, of
-//! numbers, forms, atoms and test points, also put into shared formulas; blocks branch by branch, guards together, and
-//! formulas eliminated by cases; least values; scripts of SMT-LIB; and pieces that are shared out to threads. The gate runs it and compares what it prints.
+//! limit, a tree printed by itself, the cases of a tree, and the sample of one without free names; test points, also put into
+//! shared formulas; blocks branch by branch, guards together, and formulas eliminated by cases; and least values. Those of the
+//! lowest crates are made by `gate_low_calls`. The gate runs it and compares what it prints.
 #![tactic(auto)]
 
 mod blocks;
@@ -11,13 +11,10 @@ mod families;
 mod forms;
 mod guards;
 mod least;
-mod numbers;
-mod pieces;
 mod points;
 mod reading;
 mod samples;
 mod shared;
-mod smt;
 mod writing;
 
 use crate::calls::{cases, ids, plain_tree, printed_atom, sample, unfolding};
@@ -27,15 +24,13 @@ use std::thread::Threads;
 
 fn main(rt: HostRuntime) -> io::Result<()> {
     formulas(&rt)?;
-    lowest(&rt)?;
+    test_points(&rt)?;
     shared_formulas(&rt)?;
     eliminated(&rt)?;
     counted(&rt)?;
     by_cases(&rt)?;
     answered_by_cases(&rt)?;
-    least_values(&rt)?;
-    cut(&rt)?;
-    shared_out(&rt)
+    least_values(&rt)
 }
 
 /// Calls on formulas.
@@ -65,17 +60,9 @@ fn formulas(rt: &HostRuntime) -> io::Result<()> {
     tell(rt, "sample between 0 and 1", none)
 }
 
-/// Calls on numbers, forms, atoms and test points.
-fn lowest(rt: &HostRuntime) -> io::Result<()> {
+/// Calls on test points.
+fn test_points(rt: &HostRuntime) -> io::Result<()> {
     let alloc = rt.alloc();
-    tell(rt, "numbers at the limit", numbers::numbers(alloc))?;
-    tell(rt, "fractions close to 1", numbers::fractions(alloc))?;
-    tell(rt, "a form at a point", numbers::values(alloc))?;
-    tell(
-        rt,
-        "an atom and its negation at a point",
-        numbers::atoms(alloc),
-    )?;
     tell(
         rt,
         "points over the fields",
@@ -196,36 +183,6 @@ fn least_values<R: Print + AllocGlobal>(rt: &R) -> io::Result<()> {
     let up_to = least::up_to_zero(alloc);
     tell(rt, "the least number from 0 on", from)?;
     tell(rt, "the least number up to 0", up_to)
-}
-
-/// Scripts of SMT-LIB.
-fn cut<R: Print + AllocGlobal>(rt: &R) -> io::Result<()> {
-    let alloc = rt.alloc();
-    let commands = smt::places(alloc);
-    let symbols = smt::symbols(alloc);
-    tell(rt, "the commands of a script", commands)?;
-    tell(rt, "its symbols", symbols)
-}
-
-/// Pieces that are shared out to threads.
-fn shared_out<R: Threads + Sync + Print + AllocGlobal>(rt: &R) -> io::Result<()> {
-    let alloc = rt.alloc();
-    let five = pieces::told(rt, alloc, 5, 2, &[]);
-    let two = pieces::told(rt, alloc, 2, 8, &[]);
-    let three = pieces::told(rt, alloc, 3, 1, &[]);
-    let none = pieces::told(rt, alloc, 0, 4, &[]);
-    let stopped = pieces::told(rt, alloc, 9, 4, &[7, 3]);
-    let at_once = pieces::at_once(rt, alloc);
-    tell(rt, "five pieces by two threads", five)?;
-    tell(rt, "two pieces by eight threads", two)?;
-    tell(rt, "three pieces by one thread", three)?;
-    tell(rt, "no piece", none)?;
-    tell(
-        rt,
-        "nine pieces by four threads, with stops at 7 and 3",
-        stopped,
-    )?;
-    tell(rt, "two pieces by two threads", at_once)
 }
 
 /// What a call gives, or that it gives nothing, as where memory ran out.

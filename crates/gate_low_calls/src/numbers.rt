@@ -1,6 +1,5 @@
 //! Numbers at the limit, forms at points, and atoms.
 
-use crate::forms::{atom_text, form_text};
 use exact_numbers::{compare_fractions, gcd, lcm, product, sum};
 use linear_forms::{Linear, Values};
 use logic_meaning::VarId;
@@ -52,8 +51,7 @@ pub(crate) fn values(alloc: Global) -> Option<String> {
     let value = told(alloc, form.value(&at))?;
     at.put(X, i128::MAX).ok()?;
     let past = told(alloc, form.value(&at))?;
-    let form = form_text(alloc, &form).ok()?;
-    format!(in alloc; "{form} is {value}, and {past}").ok()
+    format!(in alloc; "{value} {past}").ok()
 }
 
 /// The atom `x < 0` where `x` is -1/2, and its negation there.
@@ -64,7 +62,5 @@ pub(crate) fn atoms(alloc: Global) -> Option<String> {
     at.put(X, -1).ok()?;
     let holds = truth(&atom, &at)?;
     let fails = truth(&opposite, &at)?;
-    let atom = atom_text(alloc, &atom).ok()?;
-    let opposite = atom_text(alloc, &opposite).ok()?;
-    format!(in alloc; "{atom} is {holds}, {opposite} is {fails}").ok()
+    format!(in alloc; "{holds} {fails}").ok()
 }
