@@ -64,13 +64,6 @@ impl Session {
         }
     }
 
-    /// The limits of the session.
-    pub fn limits(&self) -> Limits
-        ensures { result ≡ self.now.limits }
-    {
-        self.limits
-    }
-
     /// Answers the statement that these bytes spell, or says the first cause of its refusal, which changes nothing.
     /// An elimination or a grid is worked on by as many threads of the runtime as the session has workers; each passes the gate before a
     /// piece.
