@@ -63,8 +63,8 @@ use Rattle.program_meaning.specs.Targets.{TargetAnswer, Infeasible, Unbounded, A
 use Rattle.session_state.proofs.NameLemmas.{variables_in_names}
 use Rattle.session_state.proofs.VariableLemmas.{AllVariables, both, variables_of_formula, variables_of_all, all_put_in}
 use Rattle.form_commands.specs.Reading.{HasNumbers, IsReadable}
-use Rattle.constraint_queries.specs.Found.{IsTargetFound, at_value}
-use Rattle.constraint_queries.proofs.Blocks.{whole_block, whole_matrix}
+use Rattle.least_search.specs.Found.{IsTargetFound, at_value}
+use Rattle.least_search.proofs.Blocks.{whole_block, whole_matrix}
 use Rattle.constraint_queries.proofs.Problems.{IsWeakComparison, weak_comparison, names_resolved, together_weak}
 use Rattle.constraint_queries.proofs.TargetPoints.{Other, IsThere, others_agree, target_there, below_of_finer}
 

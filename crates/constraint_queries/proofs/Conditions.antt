@@ -3,7 +3,7 @@ use Rattle.std.proofs.Common.{◌≡◌, ⊎_elim, inl, ℕ, List, [], ◌∷◌
 use Rattle.formula_laws.specs.TheoryAtoms.{AtomIn}
 use Rattle.logic_meaning.specs.Context.{Fields}
 use Rattle.logic_meaning.specs.Every.{Every, EveryOf}
-use Rattle.logic_meaning.specs.Formula.{Yes, No, One, Not, And, Or, Impl, Repl, Equiv, Ex, All}
+use Rattle.logic_meaning.specs.Formula.{Or}
 use Rattle.logic_meaning.specs.Point.{Point, Of}
 use Rattle.logic_meaning.specs.Shape.{IsQuantifierFree}
 use Rattle.logic_meaning.specs.Plain.{IsPlain, ArePlain}
@@ -33,26 +33,10 @@ use Rattle.session_state.specs.declared.state.SessionState.{SessionState}
 use Rattle.form_commands.proofs.CasesFor.{fewer_true}
 use Rattle.form_commands.proofs.ConditionsFor.{guards_tidy}
 use Rattle.form_commands.proofs.EliminatedLemmas.{plain_free}
+use Rattle.least_search.proofs.Blocks.{exs_sign}
 use Rattle.constraint_queries.specs.Found.{IsWeakProblem, IsConditionOf}
 
 -- ---- what is asked of a weak problem
-
-plain_sign : (f : Tree) → IsPlain f → case_sign (normal_tree f) ≡ true
-plain_sign Yes h = refl
-plain_sign No h = refl
-plain_sign (One a) h = refl
-plain_sign (Not f) h = absurd h
-plain_sign (And fs) h = refl
-plain_sign (Or fs) h = refl
-plain_sign (Impl f g) h = absurd h
-plain_sign (Repl f g) h = absurd h
-plain_sign (Equiv f g) h = absurd h
-plain_sign (Ex x f) h = absurd h
-plain_sign (All x f) h = absurd h
-
-pub exs_sign : (xs : List ℕ) (f : Tree) → IsPlain f → case_sign (normal_tree (exs xs f)) ≡ true
-exs_sign [] f h = plain_sign f h
-exs_sign (x ∷ xs) f h = refl
 
 -- its cases are those of the problem itself
 pub weak_sign : (f : Tree) → IsWeakProblem f → case_sign (normal_tree f) ≡ true

@@ -21,7 +21,8 @@ use Rattle.session_state.proofs.NameLemmas.{variables_in_names}
 use Rattle.form_commands.specs.Reading.{HasNumbers, IsReadable, AreNumbered, AreReadable}
 use Rattle.form_commands.proofs.ReadTruth.{truth_as_written}
 use Rattle.constraint_queries.proofs.CauseSteps.{IsComparison, comparison}
-use Rattle.constraint_queries.proofs.ConstraintTrees.{resolved_bound, meets_constraint}
+use Rattle.least_search.proofs.Constraints.{meets_constraint}
+use Rattle.constraint_queries.proofs.ConstraintTrees.{resolved_bound}
 use Rattle.constraint_queries.proofs.ConstraintNames.{free_named}
 
 module _ (s : State) (sound : IsSound s) (fields : s.context ≡ Fields) (p : Point ℕ) (of : Of Fields p) where

@@ -32,7 +32,8 @@ use Rattle.session_state.specs.declared.state.SessionState.{SessionState}
 use Rattle.formula_store.specs.declared.id.FormulaId.{FormulaId}
 use Rattle.formula_store.specs.Nodes.{tree}
 use Rattle.formula_laws.proofs.SamePoint.{point_same}
-use Rattle.constraint_queries.specs.Found.{IsWeakProblem, IsConditionOf, FoundStop, at_value}
+use Rattle.least_search.specs.Found.{at_value}
+use Rattle.constraint_queries.specs.Found.{IsWeakProblem, IsConditionOf, FoundStop}
 use Rattle.constraint_queries.proofs.Conditions.{asked_true, condition_answers}
 
 -- ---- the point

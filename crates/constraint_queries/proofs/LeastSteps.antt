@@ -53,9 +53,10 @@ use Rattle.session_state.specs.Keeping.{state_of, IsSessionState}
 use Rattle.session_state.specs.Growth.{KeepsState, GrowsState}
 use Rattle.formula_resolving.specs.Numbering.{Grows}
 use Rattle.form_commands.specs.Replies.{use_of, Refuses, IsQueryAnswer}
-use Rattle.constraint_queries.specs.declared.found.Found.{Found}
-use Rattle.constraint_queries.specs.declared.found.Found.TheVariants as found
-use Rattle.constraint_queries.specs.Found.{IsWeakProblem, found_of, IsTargetFound, FoundStop}
+use Rattle.least_search.specs.declared.found.Found.{Found}
+use Rattle.least_search.specs.declared.found.Found.TheVariants as found
+use Rattle.least_search.specs.Found.{found_of, IsTargetFound}
+use Rattle.constraint_queries.specs.Found.{IsWeakProblem, FoundStop}
 use Rattle.constraint_queries.specs.LeastQueriesSteps.{HasNamesWithin, IsProblemIn, IsProblemUnread}
 use Rattle.constraint_queries.proofs.Attained.{IsProblemRead, says_least}
 use Rattle.constraint_queries.proofs.Problems.{weak_problem}

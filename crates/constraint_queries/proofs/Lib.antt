@@ -13,6 +13,5 @@ pub mod Attained
 pub mod Problems
 pub mod Conditions
 pub mod FoundSteps
-pub mod Blocks
 pub mod TargetPoints
 pub mod LeastSteps

@@ -12,7 +12,7 @@ use Rattle.formula_laws.proofs.SamePoint.{finer_move}
 use Rattle.formula_laws.proofs.Values.{pos_mul}
 use Rattle.logic_meaning.specs.Values.{Value, value_names, with_value, with_values, origin}
 use Rattle.sample_reference.proofs.SamePoints.{abs_positive}
-use Rattle.constraint_queries.specs.Found.{at_value}
+use Rattle.least_search.specs.Found.{at_value}
 
 pub below_of_finer : (q : Point ℕ) (n : ℕ) → (finer q n).below ≡ q.below * n
 unfolding finer

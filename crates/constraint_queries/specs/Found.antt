@@ -1,9 +1,7 @@
 -- What is found of the target of a resolved problem.
-use Rattle.std.specs.Prelude.{◌≡◌, ◌⊎◌, ℕ, List, Some, unsigned_abs, nat_eq}
-use Rattle.exact_numbers.specs.Fraction.{frac_of}
+use Rattle.std.specs.Prelude.{◌≡◌, ◌⊎◌, ℕ, List}
 use Rattle.logic_meaning.specs.Context.{Fields}
 use Rattle.logic_meaning.specs.Every.{Every}
-use Rattle.logic_meaning.specs.Point.{Point, move}
 use Rattle.logic_meaning.specs.Shape.{IsQuantifierFree}
 use Rattle.logic_meaning.specs.Plain.{IsPlain}
 use Rattle.logic_meaning.specs.Tree.{Tree}
@@ -11,10 +9,6 @@ use Rattle.formula_laws.specs.Equivalence.{InContext, Equivalent}
 use Rattle.logic_meaning.specs.Reference.{reference}
 use Rattle.exact_numbers.specs.Frac.{Frac}
 use Rattle.logic_meaning.specs.ReferenceSample.{reference_sample}
-use Rattle.sample_reference.specs.TrueSample.{IsTrueSample}
-use Rattle.sample_reference.specs.Seen.{values_of}
-use Rattle.logic_meaning.specs.Values.{origin}
-use Rattle.logic_meaning.specs.Target.{IsInfeasible, IsUnbounded}
 use Rattle.linear_theory.specs.WeakTargets.{IsWeak, exs}
 use Rattle.logic_meaning.specs.LeastFraction.{IsLeastFraction}
 use Rattle.reference_engine.specs.declared.measured.Measured.{Measured}
@@ -22,12 +16,10 @@ use Rattle.reference_engine.specs.Told.{StopsWith}
 use Rattle.formula_store.specs.declared.id.FormulaId.{FormulaId}
 use Rattle.formula_store.specs.Nodes.{tree, IsId}
 use Rattle.program_meaning.specs.declared.line.StatementError.{StatementError}
-use Rattle.program_meaning.specs.Targets.{TargetAnswer, Infeasible, Unbounded, Attained}
 use Rattle.program_meaning.specs.declared.line.StatementError.TheVariants as error
 use Rattle.session_state.specs.declared.state.SessionState.{SessionState}
 use Rattle.form_commands.specs.Refusals.{measured_refusal}
-use Rattle.constraint_queries.specs.declared.found.Found.{Found}
-use Rattle.constraint_queries.specs.declared.found.Found.TheVariants as found
+use Rattle.least_search.specs.Found.{at_value}
 
 -- the problem has names to be eliminated, and behind them a conjunction of weak constraints
 pub record IsWeakProblem (problem : Tree) : Type 0 where
@@ -37,22 +29,6 @@ pub record IsWeakProblem (problem : Tree) : Type 0 where
   pub is_plain : IsPlain matrix
   pub weak : Every IsWeak matrix
   pub in_fields : InContext Fields matrix
-
--- what was found
-abbrev pub found_of : Found → TargetAnswer
-found_of found.Infeasible = Infeasible
-found_of found.Unbounded = Unbounded
-found_of (found.Attained least values) = Attained (frac_of least) (values_of values.items)
-
--- the point at which the name has the value, and all others 0
-abbrev pub at_value : ℕ → Frac → Point ℕ
-at_value z v = move nat_eq origin z v.numerator (unsigned_abs v.denominator)
-
--- what it says of the resolved problem
-abbrev pub IsTargetFound : ℕ → Tree → TargetAnswer → Type 0
-IsTargetFound z problem Infeasible = IsInfeasible z problem origin
-IsTargetFound z problem Unbounded = IsUnbounded z problem origin
-IsTargetFound z problem (Attained least values) = IsLeastFraction z problem least × IsTrueSample Fields problem (at_value z least) (Some values)
 
 -- a formula without quantifiers that says the same
 pub record IsConditionOf (problem : Tree) (after : SessionState) (condition : FormulaId) : Type 0 where

@@ -1,32 +1,28 @@
 //! Constraints, read and oriented.
 
-ghost use Rattle.std.specs.Prelude.{◌≡◌, ◌++◌, [], ◌∷◌, negsuc, IfOk, IfErr, OnOk, map};
-ghost use Rattle.logic_meaning.specs.Form.{scale};
+ghost use Rattle.std.specs.Prelude.{◌≡◌, IfOk, IfErr, OnOk, map};
 ghost use Rattle.std.specs.List.{AllByRecursion};
 ghost use Rattle.logic_meaning.specs.Context.{Fields, Integers};
-ghost use Rattle.normal_atoms.specs.Atoms.{context_of, atom_of as meant_atom, relation_of};
+ghost use Rattle.normal_atoms.specs.Atoms.{context_of};
 ghost use Rattle.formula_store.specs.Nodes.{tree, IsId};
 ghost use Rattle.language_meaning.specs.Trees.{formulas_of};
 ghost use Rattle.written_syntax.specs.CodeTrees.{formula_tree};
 ghost use Rattle.written_syntax.specs.Writable.{AreWritableFormulas};
 ghost use Rattle.written_syntax.specs.ConstraintLists.{AreConstraints};
 ghost use Rattle.certificates.specs.Constraints.{constraint_of as meant_constraint};
-ghost use Rattle.logic_meaning.specs.Atom as meant;
-ghost use Rattle.program_meaning.specs.Certificates.{tree_constraint, atom_constraint, constraints_of as meant_constraints};
+ghost use Rattle.program_meaning.specs.Certificates.{tree_constraint, constraints_of as meant_constraints};
 ghost use Rattle.session_state.specs.Keeping.{state_of, IsSessionState};
 ghost use Rattle.session_state.specs.Growth.{KeepsState};
 ghost use Rattle.form_commands.specs.Reading.{AreNumbered};
 ghost use Rattle.constraint_queries.specs.Steps.{AreReady, NoConstraints, cert_refusal};
 
-use certificates::{Bound, CertError, Constraint};
+use certificates::{CertError, Constraint};
 use form_commands::{check_fields, read_all};
 use formula_store::FormulaId;
-use formula_tree::Shape;
-use linear_forms::Linear;
-use normal_atoms::{Atom, Context, Rel};
+use least_search::tree_constraint;
+use normal_atoms::Context;
 use program_meaning::StatementError;
 use session_state::SessionState;
-use std::alloc::{AllocError, Global};
 use written_syntax::Formula;
 
 /// The constraints, or the first cause of a refusal before what is calculated with them: in reading, or the theory.
@@ -85,74 +81,12 @@ fn oriented(state: &SessionState, ids: &[FormulaId]) -> Result<Vec<Constraint>, 
 {
     let mut constraints = Vec::new(state.alloc);
     for id in ids {
-        if let Err(_failed) = add_constraint(state, *id, &mut constraints) {
+        let Ok(constraint) = tree_constraint(state.alloc, &state.store, *id) else {
+            return Err(StatementError::Memory);
+        };
+        if let Err(_failed) = constraints.push(constraint) {
             return Err(StatementError::Memory);
         }
     }
     Ok(constraints)
-}
-
-/// Puts the constraint that a resolved comparison is behind the others.
-fn add_constraint(
-    state: &SessionState,
-    id: FormulaId,
-    constraints: &mut Vec<Constraint>,
-) -> Result<(), AllocError>
-    requires { IsId state.now.store id }
-    ensures { OnOk result (map meant_constraint constraints.new.items ≡ map meant_constraint constraints.old.items ++ tree_constraint (tree state.now.store id) ∷ []) }
-{
-    let constraint = match state.store.shape(id) {
-        Shape::One(atom) => atom_constraint(state.alloc, atom)?,
-        Shape::False => at_most(Linear::constant(state.alloc, 1)),
-        _ => at_most(Linear::constant(state.alloc, 0)),
-    };
-    constraints.push(constraint)?;
-    Ok(())
-}
-
-/// The form is to be at most 0.
-fn at_most(form: Linear) -> Constraint
-    ensures form { (meant_constraint result).form ≡ form }
-    ensures bound { result.bound ≡ Bound.AtMost }
-{
-    Constraint {
-        form,
-        bound: Bound::AtMost,
-    }
-}
-
-/// The constraint that an atom is. One that is to be above or at least 0 is negated.
-fn atom_constraint(alloc: Global, atom: &Atom) -> Result<Constraint, AllocError>
-    ensures { IfOk result (λ c. meant_constraint c ≡ atom_constraint (meant_atom atom.now)) }
-{
-    match atom {
-        Atom::Compare(relation, form) => compared(alloc, *relation, form),
-        Atom::Congruent { form, .. } => compared(alloc, Rel::Equal, form),
-    }
-}
-
-/// The constraint that a comparison of a form with 0 is.
-fn compared(alloc: Global, relation: Rel, form: &Linear) -> Result<Constraint, AllocError>
-    ensures { IfOk result (λ c. meant_constraint c ≡ atom_constraint (meant.Compare (relation_of relation) form.now)) }
-{
-    let bound = match relation {
-        Rel::Equal | Rel::Differs => Bound::Equal,
-        Rel::AtMost | Rel::AtLeast => Bound::AtMost,
-        Rel::Less | Rel::Greater => Bound::Below,
-    };
-    let form = match relation {
-        Rel::Greater | Rel::AtLeast => negated(alloc, form)?,
-        Rel::Equal | Rel::Differs | Rel::AtMost | Rel::Less => form.copy(alloc)?,
-    };
-    Ok(Constraint { form, bound })
-}
-
-/// The form with the other sign.
-fn negated(alloc: Global, form: &Linear) -> Result<Linear, AllocError>
-    ensures { IfOk result (λ f. f ≡ scale (negsuc 0) form.now) }
-{
-    match form.divide_exact(alloc, -1) {
-        Ok(form) => Ok(form),
-        Err(_) => Err(AllocError),
-    }
 }

@@ -9,11 +9,13 @@ ghost use Rattle.logic_meaning.specs.NormalForm.{IsNormal};
 ghost use Rattle.formula_store.specs.Nodes.{tree, IsId};
 ghost use Rattle.logic_meaning.specs.LeastFraction.{IsLeastFraction};
 ghost use Rattle.session_state.specs.Growth.{KeepsState};
-ghost use Rattle.constraint_queries.specs.Found.{IsWeakProblem, found_of, IsTargetFound, IsConditionOf, ConditionStop, FoundStop};
+ghost use Rattle.least_search.specs.Found.{found_of, IsTargetFound};
+ghost use Rattle.constraint_queries.specs.Found.{IsWeakProblem, IsConditionOf, ConditionStop, FoundStop};
 
 use exact_numbers::Fraction;
 use form_commands::{Workshop, guards_together, measured_refusal};
 use formula_store::FormulaId;
+use least_search::{Found, least_found};
 use linear_forms::Values;
 use linear_opt::{Least, least_value};
 use logic_meaning::VarId;
@@ -22,17 +24,32 @@ use qe_parallel::Gate;
 use session_state::SessionState;
 use std::thread::Threads;
 
-/// What is found of a target.
-#[derive(Drop)]
-pub(crate) enum Found {
-    Infeasible,
-    Unbounded,
-    /// The least value, and values of the names with which the target has it.
-    Attained(Fraction, Vec<(VarId, Fraction)>),
+/// What is found of the target of this name in a resolved problem over the ordered fields: by the simplex method, and by elimination
+/// where that does not suffice.
+pub(crate) fn look<R: Threads + Sync, G: Gate + Sync>(
+    workshop: &Workshop<'_, R, G>,
+    state: &mut SessionState,
+    problem: FormulaId,
+    target: VarId,
+) -> Result<Found, StatementError>
+    requires workers { 1 ≤ workshop.now.limits.workers }
+    requires theory { context_of state.old.context ≡ Fields }
+    requires id { IsId state.old.store problem }
+    requires normal { Every (IsNormal Fields) (tree state.old.store problem) }
+    requires weak { IsWeakProblem (tree state.old.store problem) }
+    ensures found { IfOk result (λ r. IsTargetFound target.number (tree state.old.store problem) (found_of r)) }
+    ensures stopped { IfErr result (FoundStop workshop.now.limits.nodes target.number (tree state.old.store problem)) }
+    ensures kept { KeepsState state.old state.new }
+{
+    match least_found(state.alloc, &state.store, problem, target) {
+        Ok(Some(found)) => Ok(found),
+        Ok(None) => eliminated(workshop, state, problem, target),
+        Err(_) => Err(StatementError::Memory),
+    }
 }
 
-/// What is found of the target of this name in a resolved problem over the ordered fields.
-pub(crate) fn look<R: Threads + Sync, G: Gate + Sync>(
+/// What is found of it by what the cases of the problem say together.
+fn eliminated<R: Threads + Sync, G: Gate + Sync>(
     workshop: &Workshop<'_, R, G>,
     state: &mut SessionState,
     problem: FormulaId,

@@ -7,13 +7,13 @@ ghost use Rattle.exact_numbers.specs.Fraction.{frac_of};
 ghost use Rattle.logic_meaning.specs.Writing.{text_limit};
 ghost use Rattle.program_meaning.specs.Reply.{IsLine};
 ghost use Rattle.program_meaning.specs.Targets.{Attained, target_text};
-ghost use Rattle.constraint_queries.specs.Found.{found_of};
+ghost use Rattle.least_search.specs.Found.{found_of};
 ghost use Rattle.constraint_queries.specs.LeastQueriesSteps.{HasNamesWithin};
 
-use crate::found::Found;
 use exact_numbers::Fraction;
 use form_commands::printed_line;
 use formula_tree::Names;
+use least_search::Found;
 use logic_meaning::VarId;
 use program_meaning::{Line, StatementError};
 use redlog_printer::{Output, PrintError, point_text, put_fraction};

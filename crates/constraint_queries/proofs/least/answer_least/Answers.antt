@@ -10,7 +10,8 @@ use Rattle.program_meaning.specs.Meaning.{meaning}
 use Rattle.session_state.specs.Keeping.{state_of}
 use Rattle.session_state.proofs.StateLemmas.{grows_then}
 use Rattle.form_commands.specs.Replies.{use_of, Refuses}
-use Rattle.constraint_queries.specs.Found.{found_of, IsTargetFound, FoundStop}
+use Rattle.least_search.specs.Found.{found_of, IsTargetFound}
+use Rattle.constraint_queries.specs.Found.{FoundStop}
 use Rattle.constraint_queries.proofs.ProblemSteps.{problem_proper}
 use Rattle.constraint_queries.proofs.LeastSteps.{unread_refuses, asked, on_err, normal_there, weak_there, some_there, stop_refuses, within_there, short_there, line_told, session_final, state_final, back_final}
 use Rattle.constraint_queries.proofs.least.answer_least.Goals as goal

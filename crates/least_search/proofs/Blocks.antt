@@ -1,4 +1,4 @@
--- The leading block of a weak problem: all its names, where none stands twice.
+-- What is asked of a formula behind quantifiers by ex: the formula itself. Its leading block has all the names, where none stands twice.
 use Rattle.std.proofs.Common.{◌≡◌, inl, inr, ℕ, List, [], ◌∷◌, Bool, true, false, if◌then◌else◌, sym, ap, ◌∙◌, refl, nat_eq, eqb-true}
 use Rattle.logic_meaning.specs.declared.quantifier.Quantifier.TheVariants.{Exists}
 use Rattle.formula_laws.specs.StandsOnce.{StandsOnce}
@@ -9,12 +9,28 @@ use Rattle.logic_meaning.specs.Some.{SomeOf, EachOf}
 use Rattle.logic_meaning.specs.Tree.{Tree, Trees}
 use Rattle.formula_laws.proofs.NormalAgain.{normal_form_itself}
 use Rattle.logic_meaning.specs.NormalForm.{negated_normal}
-use Rattle.logic_meaning.specs.Cases.{case_formula, case_matrix, case_names}
+use Rattle.logic_meaning.specs.Cases.{case_sign, case_formula, case_matrix, case_names}
 use Rattle.logic_meaning.specs.Reference.{normal_tree, turned}
 use Rattle.linear_theory.specs.WeakTargets.{exs}
-use Rattle.constraint_queries.proofs.Conditions.{exs_sign}
 
 -- ---- what is asked
+
+plain_sign : (f : Tree) → IsPlain f → case_sign (normal_tree f) ≡ true
+plain_sign Yes h = refl
+plain_sign No h = refl
+plain_sign (One a) h = refl
+plain_sign (Not f) h = absurd h
+plain_sign (And fs) h = refl
+plain_sign (Or fs) h = refl
+plain_sign (Impl f g) h = absurd h
+plain_sign (Repl f g) h = absurd h
+plain_sign (Equiv f g) h = absurd h
+plain_sign (Ex x f) h = absurd h
+plain_sign (All x f) h = absurd h
+
+pub exs_sign : (xs : List ℕ) (f : Tree) → IsPlain f → case_sign (normal_tree (exs xs f)) ≡ true
+exs_sign [] f h = plain_sign f h
+exs_sign (x ∷ xs) f h = refl
 
 mutual
   plain_negation_normal : (f : Tree) → IsPlain f → IsNegationNormal f
@@ -38,7 +54,7 @@ exs_negation_normal : (ns : List ℕ) (f : Tree) → IsPlain f → IsNegationNor
 exs_negation_normal [] f h = plain_negation_normal f h
 exs_negation_normal (x ∷ ns) f h = exs_negation_normal ns f h
 
-asked_itself : (ns : List ℕ) (f : Tree) → IsPlain f → case_formula (exs ns f) ≡ exs ns f
+pub asked_itself : (ns : List ℕ) (f : Tree) → IsPlain f → case_formula (exs ns f) ≡ exs ns f
 asked_itself ns f h = ap (λ b. turned b (normal_tree (exs ns f))) (exs_sign ns f h) ∙ normal_form_itself negated_normal (exs ns f) (exs_negation_normal ns f h)
 
 -- ---- the chain of its names

@@ -1,0 +1,26 @@
+use Rattle.std.proofs.Common.{map, subst}
+use Rattle.exact_numbers.specs.Fraction.{frac_of}
+use Rattle.logic_meaning.specs.Context.{Fields}
+use Rattle.logic_meaning.specs.Tree.{TrueAt}
+use Rattle.logic_meaning.specs.Values.{with_values}
+use Rattle.formula_store.specs.Nodes.{tree}
+use Rattle.linear_forms.specs.Values.{number_of}
+use Rattle.certificates.specs.Constraints.{constraint_of}
+use Rattle.sample_reference.specs.Seen.{values_of}
+use Rattle.least_search.specs.Found.{at_value}
+use Rattle.least_search.proofs.Checked.{some_is, told_unbounded}
+use Rattle.least_search.proofs.problem.Problem.unbounded.Goals as goal
+
+pub returns-then-branch-2 : goal.returns-then-branch-2
+returns-then-branch-2 c = record {
+  found =
+      let s = c.args.self.now in
+      let h = c.requires.problem in
+      let f = tree s.store.now s.matrix in
+      let v = frac_of c.in-Some-Some.value in
+      let values = c.in-Some-Some-2.values in
+      let met = subst (λ vs. TrueAt Fields f (with_values (at_value s.target.number v) (values_of vs))) c.deref.ensures.value (c.in_ok-is_met.ensures c.if-branch.true) in
+      let down = c.in_ok-leads_down.ensures c.if-branch-2.true in
+      told_unbounded s.target.number (map number_of s.names.items) f (map constraint_of s.rows.items) h.once h.apart h.rows v (values_of values.items) c.in-Some-Some.value.positive
+      (some_is _ c.in_ok-values.field-0 values c.in-Some-Some-2.is-0 c.in_ok-values.ensures.each) (some_is _ c.in_ok-values.field-0 values c.in-Some-Some-2.is-0 c.in_ok-values.ensures.names) met down.0 down.1;
+}
