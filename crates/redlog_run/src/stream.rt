@@ -53,7 +53,9 @@ fn answer_reads<R: Threads + Sync, S: Source, K: Sink, G: Gate + Sync>(
     let mut buffer = [0u8; READ_SIZE];
     let mut left = SCRIPT_LIMIT;
     for _turn in 0..SCRIPT_LIMIT + 1 {
-        let count = source.read(&mut buffer)?;
+        let Ok(count) = source.read(&mut buffer) else {
+            return Err(StreamStop::Read);
+        };
         if count == 0 {
             let refused = answer_end(team, sink, answering)?;
             return Ok(refused);

@@ -9,24 +9,20 @@ use Rattle.redlog_run.specs.Steps.{ClaimOfSource}
 use Rattle.redlog_run.proofs.Claims.{Reading, IsFew, length_few, gave_parts, gave_end, within_few, one_read_few, reading_more, full_few, some_ahead, unread_claim, whole_claim, last_claim, ended_claim, stopped_claim, past_claim}
 use Rattle.redlog_run.proofs.stream.answer_reads.Goals as goal
 
-pub returns-in_err-count : goal.returns-in_err-count
-returns-in_err-count g c =
+pub returns-in_default : goal.returns-in_default
+returns-in_default g c =
     let source = g.S.Source in
     let sink = g.K.Sink in
     let first = c.args.source.now in
     let old = c.loop-turn.source in
     let new = c.read.new.self in
     let inv = c.loop-turn.invariant in
-    let rose : Rose (source.faults old) (source.faults new) = c.in_err-count.ensures.fault in
-    let same : source.left new ≡ source.left old = c.in_err-count.ensures.err in
-    let p = err_from_is_err_and c.from_residual.result c.from_residual.ensures.1 in
-    let is : c.from_residual.result ≡ Err streams.Read = p.1 ∙ ap Err p.2 in
-    subst (λ r. ClaimOfSource c.args.limits.nodes (ends (source.left first) (source.faults first) (sink.wrote c.args.sink.now) (sink.faults c.args.sink.now))
-    (ends (source.left new) (source.faults new) (sink.wrote c.loop-turn.sink) (sink.faults c.loop-turn.sink)) (stream_status r)) (sym is)
-    (unread_claim c.args.limits.nodes (source.left first) (source.left new) (source.faults first) (source.faults new) (sink.wrote c.args.sink.now) (sink.wrote c.loop-turn.sink) (sink.faults c.args.sink.now) (sink.faults c.loop-turn.sink)
+    let rose : Rose (source.faults old) (source.faults new) = c.in_default.ensures.fault in
+    let same : source.left new ≡ source.left old = c.in_default.ensures.err in
+    unread_claim c.args.limits.nodes (source.left first) (source.left new) (source.faults first) (source.faults new) (sink.wrote c.args.sink.now) (sink.wrote c.loop-turn.sink) (sink.faults c.args.sink.now) (sink.faults c.loop-turn.sink)
     c.loop-turn.left c.loop-turn.answering
     (subst (λ x. Reading c.args.limits.nodes (source.left first) x (sink.wrote c.args.sink.now) (sink.wrote c.loop-turn.sink) c.loop-turn.left c.loop-turn.answering) (sym same) inv.reading)
-    inv.none (subst (λ n. Rose n (source.faults new)) inv.no_read_fault rose) inv.no_write_fault)
+    inv.none (subst (λ n. Rose n (source.faults new)) inv.no_read_fault rose) inv.no_write_fault
 
 pub returns-in_err-refused : goal.returns-in_err-refused
 returns-in_err-refused g c =
@@ -38,12 +34,12 @@ returns-in_err-refused g c =
     let inv = c.loop-turn.invariant in
     let now = c.answer_end.new.sink in
     let stop = c.in_err-refused.field-0.0 in
-    let gave : Gave (source.left old) (source.left new) (take c.in_ok-count.count c.read.new.into) = c.in_ok-count.ensures.bytes in
-    let end : IsAtEnd (source.left old) = c.in_ok-count.ensures.end c.if-count-eq0.true in
-    let r : source.faults new ≡ source.faults first = c.in_ok-count.ensures.no_fault ∙ inv.no_read_fault in
+    let gave : Gave (source.left old) (source.left new) (take c.in-Ok.count c.read.new.into) = c.in-Ok.ensures.bytes in
+    let end : IsAtEnd (source.left old) = c.in-Ok.ensures.end c.if-count-eq0.true in
+    let r : source.faults new ≡ source.faults first = c.in-Ok.ensures.no_fault ∙ inv.no_read_fault in
     let all = gave_end (source.left first) (source.left old) (source.left new) inv.reading.given inv.reading.gave (subst (λ n. Gave (source.left old) (source.left new) (take n c.read.new.into)) c.if-count-eq0.true gave) end in
-    let p = err_from_is_err_and c.from_residual-in_err-refused.result c.from_residual-in_err-refused.ensures.1 in
-    let is : c.from_residual-in_err-refused.result ≡ Err (streams.Answer stop) = p.1 ∙ ap Err p.2 in
+    let p = err_from_is_err_and c.from_residual.result c.from_residual.ensures.1 in
+    let is : c.from_residual.result ≡ Err (streams.Answer stop) = p.1 ∙ ap Err p.2 in
     subst (λ r. ClaimOfSource c.args.limits.nodes (ends (source.left first) (source.faults first) (sink.wrote c.args.sink.now) (sink.faults c.args.sink.now))
     (ends (source.left new) (source.faults new) (sink.wrote now) (sink.faults now)) (stream_status r)) (sym is)
     (last_claim c.args.limits.nodes (source.left first) (source.left new) (source.faults first) (source.faults new) (sink.wrote c.args.sink.now) (sink.wrote now) (sink.faults c.args.sink.now) (sink.faults now)
@@ -59,9 +55,9 @@ returns-then-count-eq0 g c =
     let new = c.read.new.self in
     let inv = c.loop-turn.invariant in
     let now = c.answer_end.new.sink in
-    let gave : Gave (source.left old) (source.left new) (take c.in_ok-count.count c.read.new.into) = c.in_ok-count.ensures.bytes in
-    let end : IsAtEnd (source.left old) = c.in_ok-count.ensures.end c.if-count-eq0.true in
-    let r : source.faults new ≡ source.faults first = c.in_ok-count.ensures.no_fault ∙ inv.no_read_fault in
+    let gave : Gave (source.left old) (source.left new) (take c.in-Ok.count c.read.new.into) = c.in-Ok.ensures.bytes in
+    let end : IsAtEnd (source.left old) = c.in-Ok.ensures.end c.if-count-eq0.true in
+    let r : source.faults new ≡ source.faults first = c.in-Ok.ensures.no_fault ∙ inv.no_read_fault in
     let w : sink.faults now ≡ sink.faults c.args.sink.now = search rules in
     let all = gave_end (source.left first) (source.left old) (source.left new) inv.reading.given inv.reading.gave (subst (λ n. Gave (source.left old) (source.left new) (take n c.read.new.into)) c.if-count-eq0.true gave) end in
     whole_claim c.args.limits.nodes (source.left first) (source.left new) (source.faults first) (source.faults new) (sink.wrote c.args.sink.now) (sink.wrote now) (sink.faults c.args.sink.now) (sink.faults now)
@@ -78,14 +74,14 @@ returns-in_err-answer_bytes g c =
     let now = c.answer_bytes.new.sink in
     let stop = c.in_err-answer_bytes.field-0.0 in
     let into = c.read.new.into in
-    let count = c.in_ok-count.count in
+    let count = c.in-Ok.count in
     let few = c.min-few.result in
-    let read : count ≤ length into = c.in_ok-count.ensures.count in
+    let read : count ≤ length into = c.in-Ok.ensures.count in
     let size : length into ≤ 16384 = search rules in
     let h : IsFew c.loop-turn.left count few into =
     record { of_read = omega (arith, c.min-few.ensures); of_room = omega (arith, c.min-few.ensures); least = λ k. omega (arith, k, c.min-few.ensures); read = read; small = size } in
-    let gave : Gave (source.left old) (source.left new) (take count into) = c.in_ok-count.ensures.bytes in
-    let r : source.faults new ≡ source.faults first = c.in_ok-count.ensures.no_fault ∙ inv.no_read_fault in
+    let gave : Gave (source.left old) (source.left new) (take count into) = c.in-Ok.ensures.bytes in
+    let r : source.faults new ≡ source.faults first = c.in-Ok.ensures.no_fault ∙ inv.no_read_fault in
     let p = err_from_is_err_and c.from_residual-in_err-answer_bytes.result c.from_residual-in_err-answer_bytes.ensures.1 in
     let is : c.from_residual-in_err-answer_bytes.result ≡ Err (streams.Answer stop) = p.1 ∙ ap Err p.2 in
     subst (λ r. ClaimOfSource c.args.limits.nodes (ends (source.left first) (source.faults first) (sink.wrote c.args.sink.now) (sink.faults c.args.sink.now))
@@ -106,14 +102,14 @@ returns-then-branch g c =
     let inv = c.loop-turn.invariant in
     let now = c.answer_bytes.new.sink in
     let into = c.read.new.into in
-    let count = c.in_ok-count.count in
+    let count = c.in-Ok.count in
     let few = c.min-few.result in
-    let read : count ≤ length into = c.in_ok-count.ensures.count in
+    let read : count ≤ length into = c.in-Ok.ensures.count in
     let size : length into ≤ 16384 = search rules in
     let h : IsFew c.loop-turn.left count few into =
     record { of_read = omega (arith, c.min-few.ensures); of_room = omega (arith, c.min-few.ensures); least = λ k. omega (arith, k, c.min-few.ensures); read = read; small = size } in
-    let gave : Gave (source.left old) (source.left new) (take count into) = c.in_ok-count.ensures.bytes in
-    let r : source.faults new ≡ source.faults first = c.in_ok-count.ensures.no_fault ∙ inv.no_read_fault in
+    let gave : Gave (source.left old) (source.left new) (take count into) = c.in-Ok.ensures.bytes in
+    let r : source.faults new ≡ source.faults first = c.in-Ok.ensures.no_fault ∙ inv.no_read_fault in
     let w : sink.faults now ≡ sink.faults c.args.sink.now = search rules in
     let a = c.answer_bytes.new.answering in
     let answers = c.in_ok-answer_bytes.ensures.answers c.args.limits.nodes inv.reading.given (sink.wrote c.args.sink.now) inv.reading.written in
@@ -132,14 +128,14 @@ returns-then-few-count g c =
     let inv = c.loop-turn.invariant in
     let now = c.answer_bytes.new.sink in
     let into = c.read.new.into in
-    let count = c.in_ok-count.count in
+    let count = c.in-Ok.count in
     let few = c.min-few.result in
-    let read : count ≤ length into = c.in_ok-count.ensures.count in
+    let read : count ≤ length into = c.in-Ok.ensures.count in
     let size : length into ≤ 16384 = search rules in
     let h : IsFew c.loop-turn.left count few into =
     record { of_read = omega (arith, c.min-few.ensures); of_room = omega (arith, c.min-few.ensures); least = λ k. omega (arith, k, c.min-few.ensures); read = read; small = size } in
-    let gave : Gave (source.left old) (source.left new) (take count into) = c.in_ok-count.ensures.bytes in
-    let r : source.faults new ≡ source.faults first = c.in_ok-count.ensures.no_fault ∙ inv.no_read_fault in
+    let gave : Gave (source.left old) (source.left new) (take count into) = c.in-Ok.ensures.bytes in
+    let r : source.faults new ≡ source.faults first = c.in-Ok.ensures.no_fault ∙ inv.no_read_fault in
     let w : sink.faults now ≡ sink.faults c.args.sink.now = search rules in
     let quiet : c.answer_bytes.new.answering.splitter.whole ≡ false = search rules in
     let a = c.answer_bytes.new.answering in
@@ -160,13 +156,13 @@ loop-turn-preserved g c =
     let inv = c.loop-turn.invariant in
     let now = c.answer_bytes.new.sink in
     let into = c.read.new.into in
-    let count = c.in_ok-count.count in
+    let count = c.in-Ok.count in
     let few = c.min-few.result in
-    let read : count ≤ length into = c.in_ok-count.ensures.count in
+    let read : count ≤ length into = c.in-Ok.ensures.count in
     let size : length into ≤ 16384 = search rules in
     let h : IsFew c.loop-turn.left count few into =
     record { of_read = omega (arith, c.min-few.ensures); of_room = omega (arith, c.min-few.ensures); least = λ k. omega (arith, k, c.min-few.ensures); read = read; small = size } in
-    let gave : Gave (source.left old) (source.left new) (take count into) = c.in_ok-count.ensures.bytes in
+    let gave : Gave (source.left old) (source.left new) (take count into) = c.in-Ok.ensures.bytes in
     let a = c.answer_bytes.new.answering in
     let answers = c.in_ok-answer_bytes.ensures.answers c.args.limits.nodes inv.reading.given (sink.wrote c.args.sink.now) inv.reading.written in
     let written = subst (λ b. AnswersBytes c.args.limits.nodes inv.reading.given (take few (take count into)) (sink.wrote c.args.sink.now) (sink.wrote now) a (Ok b)) c.if-branch.false answers in
