@@ -1,0 +1,4 @@
+pub mod Totals
+pub mod Parts
+pub mod Written
+pub mod Listed
