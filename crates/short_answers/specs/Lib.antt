@@ -1,0 +1,4 @@
+pub mod Asking
+pub mod Branches
+pub mod Candidates
+pub mod Shorter

@@ -1,0 +1,14 @@
+//! Shorter formulas, found and licensed by questions to the elimination itself.
+#![tactic(auto)]
+
+mod answer;
+mod asking;
+mod atoms;
+mod candidates;
+mod hull;
+mod negating;
+mod parts;
+mod shortening;
+
+pub use negating::negation;
+pub use shortening::shortened;
