@@ -1,0 +1,4 @@
+(declare-const v Real)
+(declare-const x Real)
+(assert (exists ((u1 Real)) (and (<= (- 2) u1) (<= u1 2) (forall ((d1 Real) (e1 Real)) (=> (and (<= (- 1) d1) (<= d1 1) (<= (- 1) e1) (<= e1 1)) (and (<= (- 10) (+ x v u1 d1 e1)) (<= (+ x v u1 d1 e1) 10) (exists ((u2 Real)) (and (<= (- 2) u2) (<= u2 2) (forall ((d2 Real) (e2 Real)) (=> (and (<= (- 1) d2) (<= d2 1) (<= (- 1) e2) (<= e2 1)) (and (<= (- 10) (+ x (* 2 v) (* 2 u1) (* 2 d1) e1 u2 d2 e2)) (<= (+ x (* 2 v) (* 2 u1) (* 2 d1) e1 u2 d2 e2) 10))))))))))))
+(apply qe)

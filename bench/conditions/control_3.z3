@@ -1,0 +1,3 @@
+(declare-const x Real)
+(assert (exists ((u1 Real)) (and (<= (- 2) u1) (<= u1 2) (forall ((d1 Real)) (=> (and (<= (- 1) d1) (<= d1 1)) (and (<= (- 10) (+ (* 2 x) u1 d1)) (<= (+ (* 2 x) u1 d1) 10) (exists ((u2 Real)) (and (<= (- 2) u2) (<= u2 2) (forall ((d2 Real)) (=> (and (<= (- 1) d2) (<= d2 1)) (and (<= (- 10) (+ (* 4 x) (* 2 u1) (* 2 d1) u2 d2)) (<= (+ (* 4 x) (* 2 u1) (* 2 d1) u2 d2) 10) (exists ((u3 Real)) (and (<= (- 2) u3) (<= u3 2) (forall ((d3 Real)) (=> (and (<= (- 1) d3) (<= d3 1)) (and (<= (- 10) (+ (* 8 x) (* 4 u1) (* 4 d1) (* 2 u2) (* 2 d2) u3 d3)) (<= (+ (* 8 x) (* 4 u1) (* 4 d1) (* 2 u2) (* 2 d2) u3 d3) 10)))))))))))))))))
+(apply qe)

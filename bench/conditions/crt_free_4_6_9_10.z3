@@ -1,0 +1,6 @@
+(declare-const a Int)
+(declare-const b Int)
+(declare-const c Int)
+(declare-const d Int)
+(assert (exists ((x Int)) (and (= (mod (+ x (* (- 1) a)) 4) 0) (= (mod (+ x (* (- 1) b)) 6) 0) (= (mod (+ x (* (- 1) c)) 9) 0) (= (mod (+ x (* (- 1) d)) 10) 0))))
+(apply qe)

@@ -1,0 +1,2 @@
+rlset pasf$
+rlqe ex({x,y},1001*x+1365*y = n);

@@ -1,0 +1,2 @@
+rlset ofsf$
+rlqe ex({x1,x2,x3},(3*x1-a-3*b-2*x2-3*x3 <= 3 and 3*b+2*x3-a-3*x1-2*x2 <= 5 and a+x1+x2+2*x3-3*b <= 4 and 2*b-3*a-3*x1-2*x2-x3 <= 9 and 3*x1+3*x2+x3-3*a-3*b <= 9 and 2*a+2*x2+x3-2*b-3*x1 <= 1 and 0-3*a-3*b-2*x1-3*x2-3*x3 <= 3 and 3*a+2*b+x1+2*x2-2*x3 <= 7 and 2*a+3*b+2*x1+3*x2+3*x3 <= 1 and a+b-3*x1-3*x2-2*x3 <= 4 and 2*a+3*x1+3*x3-2*b-3*x2 <= 1 and 2*a-2*b-2*x1-3*x2-2*x3 <= 4 and 3*a+x1+2*x2+3*x3-3*b <= 4 and 2*x2-3*a-3*b-x1-3*x3 <= 7 and a+x1+2*x2+2*x3-2*b <= 8 and 2*b+x2-3*a-2*x1-3*x3 <= 3));

@@ -1,0 +1,2 @@
+rlset ofsf$
+rlqe ex({x1,x2,x3},(2*b+2*x1-a-x2-x3 <= 3 and x1+2*x2+x3-a-2*b <= 8 and 2*a+2*x3-b-3*x1-x2 <= 2 and 2*a+2*b+x1+2*x2-x3 <= 9 and 2*a+2*x2+x3-2*b-3*x1 <= 7 and 2*b+3*x3-3*a-2*x1-x2 <= 7 and 3*a+3*b+2*x3-3*x1-x2 <= 5 and x3-a-3*b-3*x1-3*x2 <= 3 and 0-a-2*b-2*x1-3*x2-x3 <= 3 and b+3*x1+2*x2+2*x3-3*a <= 8 and 2*a+3*b+3*x2+3*x3-3*x1 <= 8 and 3*x3-a-3*b-2*x1-x2 <= 7 and 3*x2-3*a-b-3*x1-2*x3 <= 1 and 3*a+b+x1+x2+3*x3 <= 8 and b+3*x1-a-2*x2-2*x3 <= 4 and 2*a+3*b+3*x2+x3-3*x1 <= 2 and a+3*x1+2*x2-3*b-x3 <= 8 and 2*b+2*x1+2*x2+3*x3-3*a <= 2));

@@ -1,0 +1,2 @@
+rlset ofsf$
+rlqe ex({x1,x2,x3,x4,x5},(2*b-3*a-3*x2 <= 6 and 0-3*b-3*x3 <= 7 and 2*a+b-3*x5 <= 2 and 2*x4-3*x5 <= 7 and 2*a-2*b <= 5 and 2*a+2*x3-b <= 3 and 3*x3-2*x5 <= 6 and 2*x4-3*x3 <= 1 and 2*x2+x4 <= 6 and 0-x1-2*x2-2*x3 <= 4 and 2*x1+x3 <= 6 and 2*x1+x3-3*a <= 3 and 3*x2-3*b-3*x4 <= 9 and 2*x1+x4+2*x5 <= 8 and x5-a <= 2 and 3*x5-x4 <= 8 and x2-3*x1-x4 <= 3 and 0-2*a-x2 <= 3 and x2-3*x5 <= 3 and x2+2*x3-2*x1 <= 5));

@@ -1,0 +1,2 @@
+rlset ofsf$
+rlqe ex({x1,x2,x3},(3*x3-2*b-2*x1 <= 1 and 2*x3-3*x1-x2 <= 1 and b-2*x1-2*x2 <= 4 and 2*a+2*b <= 2 and 3*a+3*x3-2*x1 <= 7 and b-x1 <= 6 and a-3*b <= 7 and a+3*b-3*x2 <= 1 and 0-2*b-x3 <= 1 and 2*a-3*b <= 8 and a-2*x2 <= 2 and 0-3*a-b <= 9 and 3*x1-3*a <= 7 and 3*a-b <= 9 and 2*a-x1 <= 8 and 2*b+3*x2 <= 1 and a-3*x1-2*x3 <= 4 and 3*x1-a-x3 <= 2 and 2*a+x2 <= 8 and 3*a-2*b-3*x3 <= 7 and 3*a-x1-2*x3 <= 5 and 0-a-2*b <= 2));

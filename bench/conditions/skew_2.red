@@ -1,0 +1,2 @@
+rlset pasf$
+rlqe ex({i,j},(0 <= i and i < n and 0 <= j and j < m and t = 2*i+j));

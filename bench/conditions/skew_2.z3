@@ -1,0 +1,5 @@
+(declare-const m Int)
+(declare-const n Int)
+(declare-const t Int)
+(assert (exists ((i Int) (j Int)) (and (<= 0 i) (< i n) (<= 0 j) (< j m) (= t (+ (* 2 i) j)))))
+(apply qe)

@@ -1,0 +1,2 @@
+rlset ofsf$
+rlqe ex({x1,y1,x2,y2},(0 <= x1 and x1+2 <= w and 0 <= y1 and y1+3 <= h and 0 <= x2 and x2+2 <= w and 0 <= y2 and y2+1 <= h and (x1+2 <= x2 or x2+2 <= x1 or y1+3 <= y2 or y2+1 <= y1)));

@@ -1,0 +1,4 @@
+(declare-const a Real)
+(declare-const b Real)
+(assert (exists ((x Real)) (and (< a x) (< x b))))
+(apply qe)

@@ -1,0 +1,5 @@
+(declare-const n Real)
+(declare-const x Real)
+(declare-const y Real)
+(assert (forall ((m Real)) (=> (= m (+ x 1)) (and (<= m n) (<= y m)))))
+(apply qe)

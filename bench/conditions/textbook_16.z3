@@ -1,0 +1,3 @@
+(declare-const n Int)
+(assert (exists ((q Int) (r Int)) (and (= n (+ (* 7 q) r)) (<= 0 r) (< r 7))))
+(apply qe)

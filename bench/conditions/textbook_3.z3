@@ -1,0 +1,6 @@
+(declare-const a Real)
+(declare-const b Real)
+(declare-const c Real)
+(declare-const d Real)
+(assert (exists ((x Real)) (and (= (* 2 x) (+ a b)) (<= c x) (<= x d))))
+(apply qe)

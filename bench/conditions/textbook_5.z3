@@ -1,0 +1,6 @@
+(declare-const a Real)
+(declare-const b Real)
+(declare-const c Real)
+(declare-const d Real)
+(assert (forall ((x Real)) (=> (and (<= a x) (<= x b)) (and (<= c x) (<= x d)))))
+(apply qe)

@@ -1,0 +1,3 @@
+% shortest answer: 2 atoms
+rlset ofsf$
+rlqe ex({m},(a <= m and b <= m and m <= c));

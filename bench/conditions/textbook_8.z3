@@ -1,0 +1,5 @@
+(declare-const a Real)
+(declare-const b Real)
+(declare-const c Real)
+(assert (exists ((m Real)) (and (<= a m) (<= b m) (<= m c))))
+(apply qe)

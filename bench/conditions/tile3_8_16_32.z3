@@ -1,0 +1,6 @@
+(declare-const n Int)
+(declare-const r Int)
+(declare-const s Int)
+(declare-const t Int)
+(assert (exists ((i Int) (j Int) (k Int) (rin Int) (sin Int) (tin Int)) (and (<= 0 i) (< i n) (<= 0 j) (< j n) (<= 0 k) (< k n) (= i (+ (* 8 r) rin)) (<= 0 rin) (< rin 8) (= j (+ (* 16 s) sin)) (<= 0 sin) (< sin 16) (= k (+ (* 32 t) tin)) (<= 0 tin) (< tin 32))))
+(apply qe)

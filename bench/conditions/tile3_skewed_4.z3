@@ -1,0 +1,6 @@
+(declare-const n Int)
+(declare-const r Int)
+(declare-const s Int)
+(declare-const t Int)
+(assert (exists ((i Int) (j Int) (k Int) (rin Int) (sin Int) (tin Int)) (and (<= 0 i) (< i n) (<= 0 j) (< j n) (<= 0 k) (< k n) (= i (+ (* 4 r) rin)) (<= 0 rin) (< rin 4) (= (+ i j) (+ (* 4 s) sin)) (<= 0 sin) (< sin 4) (= (+ i k) (+ (* 4 t) tin)) (<= 0 tin) (< tin 4))))
+(apply qe)

@@ -1,0 +1,2 @@
+rlset pasf$
+rlqe ex({i,j,k,rin,sin,tin},(0 <= i and i < n and 0 <= j and j < i+1 and 0 <= k and k < j+1 and i = 16*r+rin and 0 <= rin and rin < 16 and j = 16*s+sin and 0 <= sin and sin < 16 and k = 16*t+tin and 0 <= tin and tin < 16));

@@ -1,0 +1,6 @@
+(declare-const n Int)
+(declare-const r Int)
+(declare-const s Int)
+(declare-const t Int)
+(assert (exists ((i Int) (j Int) (k Int) (rin Int) (sin Int) (tin Int)) (and (<= 0 i) (< i n) (<= 0 j) (< j (+ i 1)) (<= 0 k) (< k (+ j 1)) (= i (+ (* 16 r) rin)) (<= 0 rin) (< rin 16) (= j (+ (* 16 s) sin)) (<= 0 sin) (< sin 16) (= k (+ (* 16 t) tin)) (<= 0 tin) (< tin 16))))
+(apply qe)

@@ -1,0 +1,6 @@
+(declare-const n Int)
+(declare-const r Int)
+(declare-const s Int)
+(declare-const t Int)
+(assert (exists ((i Int) (j Int) (k Int) (rin Int) (sin Int) (tin Int)) (and (<= 0 i) (< i n) (<= 0 j) (< j (+ i 1)) (<= 0 k) (< k (+ j 1)) (= i (+ (* 4 r) rin)) (<= 0 rin) (< rin 4) (= j (+ (* 4 s) sin)) (<= 0 sin) (< sin 4) (= k (+ (* 4 t) tin)) (<= 0 tin) (< tin 4))))
+(apply qe)

@@ -1,0 +1,4 @@
+(declare-const b Real)
+(declare-const t Real)
+(assert (exists ((p1 Real)) (and (<= 0 p1) (<= p1 4) (forall ((d1 Real)) (=> (and (<= 1 d1) (<= d1 2)) (and (<= (+ b (- 2)) (+ t p1 d1)) (<= (+ t p1 d1) b)))))))
+(apply qe)
