@@ -1,2 +1,3 @@
+% shortest answer: 4 atoms
 rlset ofsf$
 rlqe all({c1,d1},((0-1 <= c1 and c1 <= 1 and 0-1 <= d1 and d1 <= 1) impl ex({a1,b1},(0-2 <= a1 and a1 <= 2 and 0-2 <= b1 and b1 <= 2 and all({c2,d2},((0-1 <= c2 and c2 <= 1 and 0-1 <= d2 and d2 <= 1) impl ex({a2,b2},(0-2 <= a2 and a2 <= 2 and 0-2 <= b2 and b2 <= 2 and all({c3,d3},((0-1 <= c3 and c3 <= 1 and 0-1 <= d3 and d3 <= 1) impl ex({a3,b3},(0-2 <= a3 and a3 <= 2 and 0-2 <= b3 and b3 <= 2 and all({c4,d4},((0-1 <= c4 and c4 <= 1 and 0-1 <= d4 and d4 <= 1) impl ex({a4,b4},(0-2 <= a4 and a4 <= 2 and 0-2 <= b4 and b4 <= 2 and 0-1 <= x+a1+a2+a3+a4-c1-c2-c3-c4 and x+a1+a2+a3+a4-c1-c2-c3-c4 <= 1 and 0-1 <= y+b1+b2+b3+b4-d1-d2-d3-d4 and y+b1+b2+b3+b4-d1-d2-d3-d4 <= 1))))))))))))))));
