@@ -5,9 +5,6 @@
 # make uninstall          takes them away again
 # make deb                builds a package of these, which dpkg -i installs
 
-# How many crates are proved at a time: two more than there are processors, since a check waits now and then.
-JOBS ?= $(shell echo $$(($$(nproc) + 2)))
-
 # What make look answers.
 SCRIPT ?= crates/redlog/stdin
 
@@ -20,13 +17,9 @@ PACKAGE = bin/redlog_$(VERSION)_amd64
 
 all: bin/redlog
 
-bin/redlog: crates.txt $(shell find crates -path '*/out' -prune -o -type f -print)
-	@echo "Proving every crate, $(JOBS) at a time. Where nothing is kept this takes more than two hours of one processor: an hour or more on four."
-	cd crates && rt all check --jobs $(JOBS)
-	@echo "Building the program, and answering its first script."
-	cd crates/redlog && rt run < stdin
-	mkdir -p bin
-	cp crates/redlog/out/redlog bin/redlog
+# The crates that the program stands on, and nothing else. What is proved is kept beside the kit, so make test takes it from there, and this takes what that proved.
+bin/redlog: crates.txt HANDLES .ci/program $(shell .ci/program files)
+	.ci/program
 
 # The kit's unproved run keeps nothing, and its own lines are shown only where it did not come to an end.
 look:
