@@ -1,28 +1,33 @@
+# make look               answers crates/redlog/stdin, or SCRIPT=file, by the code without its proofs
 # make                    builds the proved program and leaves it at bin/redlog
 # make test               proves everything, and runs the tests and the edits that the proofs must refuse
 # make install PREFIX=..  copies the program, its manual page, its documents, its Vim files and the driver of why3 to PREFIX
 # make uninstall          takes them away again
 # make deb                builds a package of these, which dpkg -i installs
 
-# How many crates are proved at a time: two more than there are processors, since a check waits now and then.
-JOBS ?= $(shell echo $$(($$(nproc) + 2)))
+# What make look answers.
+SCRIPT ?= crates/redlog/stdin
 
 PREFIX ?= /usr/local
 VERSION ?= 0.1.0
 PAGES = $(wildcard docs/*.md)
 PACKAGE = bin/redlog_$(VERSION)_amd64
 
-.PHONY: all test install uninstall deb clean
+.PHONY: all look test install uninstall deb clean
 
 all: bin/redlog
 
-bin/redlog: crates.txt $(shell find crates -path '*/out' -prune -o -type f -print)
-	@echo "Proving every crate, $(JOBS) at a time. Where nothing is kept this takes more than two hours of one processor: an hour or more on four."
-	cd crates && rt all check --jobs $(JOBS)
-	@echo "Building the program, and answering its first script."
-	cd crates/redlog && rt run < stdin
-	mkdir -p bin
-	cp crates/redlog/out/redlog bin/redlog
+# The crates that the program stands on, and nothing else. What is proved is kept beside the kit, so make test takes it from there, and this takes what that proved.
+bin/redlog: crates.txt HANDLES .ci/program $(shell .ci/program files)
+	.ci/program
+
+# The kit's unproved run keeps nothing, and its own lines are shown only where it did not come to an end.
+look:
+	@echo "Compiling without proofs. This takes some two minutes." >&2
+	@said=$$(mktemp); (cd crates/redlog && rt try --seconds 60) < "$(SCRIPT)" 2> $$said; \
+	status=$$(sed -n 's/^run=ended status=\([0-9]*\) .*/\1/p' $$said); \
+	if [ -z "$$status" ]; then cat $$said >&2; else echo "The script ended with status $$status. Nothing of this was proved: make builds the proved program."; fi; \
+	rm -f $$said; [ -n "$$status" ]
 
 test:
 	bash .ci/run
