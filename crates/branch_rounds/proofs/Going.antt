@@ -42,7 +42,7 @@ module _ (w : Work) (matrix : Tree) (block : List ℕ) where
 
   module _ (nodes : List (Shape FormulaId)) where
     -- a branch may go where each that it stands for is covered by those of the others
-    one_may_go : (made rest : List Seen) (d : Seen) →
+    pub one_may_go : (made rest : List Seen) (d : Seen) →
         ((p : Pending) (others : List Pending) → StandsFor nodes d p → AllStand nodes (made ++ rest) others → IsCovered (context_of w.context) (map atom_of w.assumed.now) p others) →
         ArePendingOf w matrix block nodes (made ++ d ∷ rest) → ArePendingOf w matrix block nodes (made ++ rest)
     one_may_go made rest d covered a =

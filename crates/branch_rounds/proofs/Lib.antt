@@ -1,4 +1,4 @@
-mod Thinned
+pub mod Thinned
 mod Never
 pub mod Standing
 pub mod Going
@@ -8,6 +8,9 @@ pub mod Left
 pub mod Childs
 pub mod EachRound
 pub mod Places
+pub mod Reached
+pub mod Onward
+pub mod PutOn
 pub mod Ended
 pub mod Alone
 pub mod FromBranchPoints

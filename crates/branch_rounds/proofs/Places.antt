@@ -1,5 +1,5 @@
 -- Where branches stand, as one more is put behind them.
-use Rattle.std.proofs.Common.{◌≡◌, ℕ, zero, suc, Bool, true, false, cond, List, [], ◌∷◌, ◌++◌, Some, slice_get, length, refl, sym, ap, ◌∙◌, subst, inl, inr, eqb-true}
+use Rattle.std.proofs.Common.{◌≡◌, ◌<◌, get_or, arith, ℕ, zero, suc, Bool, true, false, cond, List, [], ◌∷◌, ◌++◌, Some, slice_get, length, refl, sym, ap, ◌∙◌, subst, inl, inr, eqb-true}
 use Rattle.std.specs.Cmp.Lexicographic.{pointwise}
 use Rattle.std.specs.HashMap.{get}
 use Rattle.std.specs.Prelude.{nat_eq, ◌&&◌}
@@ -51,3 +51,8 @@ names_same (x ∷ xs) (y ∷ ys) e = go (nat_eq x.number y.number) refl (names_s
     go : (t : Bool) → nat_eq x.number y.number ≡ t → (pointwise (λ (a b : VarId). nat_eq a.number b.number) xs ys ≡ true → xs ≡ ys) → (t && pointwise (λ (a b : VarId). nat_eq a.number b.number) xs ys) ≡ true → x ∷ xs ≡ y ∷ ys
     go true t same h = let n : x.number ≡ y.number = eqb-true x.number y.number t in λ i. record { number = n i } ∷ same h i
     go false t same h = cc
+
+pub some_at : (P : Seen → Type 0) (bs : List Seen) (i : ℕ) (b : Seen) → i < length bs → b ≡ get_or bs i b → P b → SomeOf P bs
+some_at P [] i b lt e h = absurd (omega (arith, lt))
+some_at P (a ∷ bs) zero b lt e h = inl (subst P e h)
+some_at P (a ∷ bs) (suc i) b lt e h = inr (some_at P bs i b (omega (arith, lt)) e h)

@@ -17,6 +17,7 @@ ghost use Rattle.branch_rounds.specs.Rounds.{PassesAt, IsDirectAt, IsLeftAlone};
 use crate::branch::Branch;
 use crate::budget::Budget;
 use crate::error::RoundError;
+use crate::own_names::is_over;
 use crate::rounds::all_of;
 use crate::work::Work;
 use branch_pruning::is_impossible;
@@ -31,6 +32,10 @@ use std::thread::Threads;
 /// true; none where the matrix is seen to be true nowhere. In each round every branch loses a name: one that stands nowhere at 0, else
 /// one at the root of the first conjoined equation that has a name left, else the name and side with the fewest points. A branch that
 /// implies another goes at the end.
+///
+/// Where the block has two names or more, and the matrix no other, only one true branch is asked for: so the branches are worked on one
+/// after the other to their end, those with the fewest nodes first, and one with the formula and the names left of an earlier one is
+/// passed over.
 ///
 /// What the steps cost is taken off the budget before anything is put in; `Nodes` comes where it does not suffice, `Overflow` only
 /// where a number passes 2^127 - 1, else `Memory`. Of a block of one name `Overflow` comes only where its points have to be counted,
@@ -69,6 +74,9 @@ pub fn block_branches<R: Threads + Sync, G: Gate + Sync>(
     )? {
         return Ok(Vec::new(work.alloc));
     }
+    if block.len() > 1 && is_over(store, matrix, block)? {
+        return work.one_by_one(rt, budget, store, matrix, block, gate);
+    }
     let mut branches = begun(work.alloc, matrix, block)?;
     for _name in block {
         branches = match work.round(rt, budget, store, branches, gate) {
@@ -79,8 +87,12 @@ pub fn block_branches<R: Threads + Sync, G: Gate + Sync>(
     Ok(work.thinned(store, branches, &mut budget.effort)?)
 }
 
-// The matrix as the only branch, with every name of the block left.
-fn begun(alloc: Global, matrix: FormulaId, block: &[VarId]) -> Result<Vec<Branch>, AllocError>
+/// The matrix as the only branch, with every name of the block left. Its only error is want of memory.
+pub(crate) fn begun(
+    alloc: Global,
+    matrix: FormulaId,
+    block: &[VarId],
+) -> Result<Vec<Branch>, AllocError>
     ensures { IfOk result (λ v. v.items ≡ record { formula = matrix; points = []; left = block.now } ∷ []) }
 {
     let left = all_of(alloc, block)?;

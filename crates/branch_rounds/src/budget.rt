@@ -1,6 +1,6 @@
 //! What the steps of an elimination may cost.
 
-ghost use Rattle.std.specs.Prelude.{◌≡◌, ◌<◌, ◌≤◌, ◌+◌, ◌*◌, ◌^◌, ◌/◌, ◌-◌, min, OnOk, OnErr, IfErr};
+ghost use Rattle.std.specs.Prelude.{◌≡◌, ◌<◌, ◌≤◌, ◌+◌, ◌*◌, ◌^◌, ◌/◌, ◌-◌, min, IfSome, OnOk, OnErr, IfErr};
 ghost use Rattle.branch_rounds.specs.declared.error.RoundError.TheVariants.{Nodes};
 
 use crate::error::RoundError;
@@ -12,13 +12,34 @@ const SHARED_FROM: u64 = 2_000;
 /// What the search for certificates may do in one elimination, in entries of its tables that are changed: some ten seconds.
 const SEARCH_EFFORT: u64 = 1_000_000_000;
 
-/// The nodes that may still be made, the step that comes next, and what the search for certificates may still do. A step at so many points costs as many times the nodes of its
-/// branch and two more, before the first is put in.
+/// How many nodes the questions may make that are asked in one elimination to shorten formulas: a second or two.
+const QUESTIONS: u128 = 2_000_000;
+
+/// How many nodes one of them may make.
+const QUESTION_MOST: u128 = 200_000;
+
+/// How many nodes one of them costs at least.
+const QUESTION_LEAST: u128 = 250;
+
+/// How many large questions may be asked in one elimination.
+const LARGE_QUESTIONS: u8 = 4;
+
+/// How many nodes a large question may make: some seconds.
+const LARGE_MOST: u128 = 4_000_000;
+
+/// What the search for certificates may do in a question.
+const QUESTION_EFFORT: u64 = 10_000_000;
+
+/// The nodes that may still be made, the step that comes next, what the search for certificates may still do, and the nodes that
+/// questions may still make. A step at so many points costs as many times the nodes of its branch and two more, before the first is
+/// put in.
 #[derive(Clone, Copy, Debug, PartialEq, Eq)]
 pub struct Budget {
     pub nodes: u128,
     next: Next,
     pub(crate) effort: u64,
+    questions: u128,
+    large_questions: u8,
 }
 
 // Which step of the elimination comes next.
@@ -38,7 +59,59 @@ impl Budget {
             nodes: 2 * limit as u128 + 8,
             next: Next::First,
             effort: SEARCH_EFFORT,
+            questions: QUESTIONS,
+            large_questions: LARGE_QUESTIONS,
         }
+    }
+
+    /// The budget of a question that is asked to shorten a formula, of at most 200,000 nodes; none where nothing is left for questions.
+    pub fn question(&self) -> Option<Budget>
+        ensures { IfSome result (λ b. b.nodes ≤ 200000) }
+    {
+        if self.questions == 0 {
+            return None;
+        }
+        Some(self.of_question(self.questions.min(QUESTION_MOST)))
+    }
+
+    /// The budget of a large question, of at most 4,000,000 nodes; none where four have been asked.
+    pub fn large_question(&mut self) -> Option<Budget>
+        ensures question { IfSome result (λ b. b.nodes ≤ 4000000) }
+        ensures nodes { self.new.nodes ≡ self.old.nodes }
+    {
+        self.large_questions = self.large_questions.checked_sub(1)?;
+        Some(self.of_question(LARGE_MOST))
+    }
+
+    // The budget of a question of so many nodes, in which no others are asked.
+    fn of_question(&self, nodes: u128) -> Budget
+        ensures { result.nodes ≡ nodes }
+    {
+        Budget {
+            nodes,
+            next: Next::Later,
+            effort: self.effort.min(QUESTION_EFFORT),
+            questions: 0,
+            large_questions: 0,
+        }
+    }
+
+    /// Takes off what a question cost, of whose budget this is left: at least 250 of the nodes for questions, and what the search for
+    /// certificates did. The nodes of the elimination stay.
+    pub fn pay_question(&mut self, left: &Budget)
+        ensures { self.new.nodes ≡ self.old.nodes }
+    {
+        let nodes = self.questions.min(QUESTION_MOST).saturating_sub(left.nodes);
+        self.questions = self.questions.saturating_sub(nodes.max(QUESTION_LEAST));
+        self.pay_search(left);
+    }
+
+    /// Takes off what the search for certificates did in a question, of whose budget this is left.
+    pub fn pay_search(&mut self, left: &Budget)
+        ensures { self.new.nodes ≡ self.old.nodes }
+    {
+        let effort = self.effort.min(QUESTION_EFFORT).saturating_sub(left.effort);
+        self.effort = self.effort.saturating_sub(effort);
     }
 
     /// What the search for certificates may still do, in entries of its tables that are changed.

@@ -1,6 +1,6 @@
 //! One name less in every branch.
 
-ghost use Rattle.std.specs.Prelude.{◌≡◌, ◌<◌, ◌++◌, [], ◌∷◌, IfOk, IfErr, OnOk, MatchResult, IsTrue, ◌↔◌, length, map};
+ghost use Rattle.std.specs.Prelude.{◌≡◌, ◌<◌, ◌≤◌, ◌+◌, ◌++◌, [], ◌∷◌, IfOk, IfErr, OnOk, MatchResult, IsTrue, ◌↔◌, length, map};
 ghost use Rattle.logic_meaning.specs.Answer.{Place};
 ghost use Rattle.logic_meaning.specs.Some.{EachOf, SomeOf};
 ghost use Rattle.normal_atoms.specs.Atoms.{context_of, atom_of};
@@ -60,8 +60,8 @@ impl Work<'_> {
         Ok(spread.into_branches())
     }
 
-    // The branches at the points of a name that is left in the branch.
-    fn step<R: Threads + Sync, G: Gate + Sync>(
+    /// The branches at the points of a name that is left in the branch: no more than the nodes that they cost.
+    pub(crate) fn step<R: Threads + Sync, G: Gate + Sync>(
         &self,
         rt: &R,
         budget: &mut Budget,
@@ -76,6 +76,7 @@ impl Work<'_> {
         ensures overflow { IfErr result (λ e. e ≡ RoundError.Overflow → PassesAt self.now.context (tree store.old branch.formula) branch.left) }
         ensures direct { (x : VarId) (s : Place) → IsDirectAt (context_of self.now.context) budget.old.nodes (tree store.old branch.formula) branch.left x s →
             MatchResult result (λ v. IsLeftAlone (context_of self.now.context) x.number s (tree store.old branch.formula) store.new v.items) (λ e. e ≡ RoundError.Memory) }
+        ensures paid { IfOk result (λ v. budget.new.nodes + length v.items ≤ budget.old.nodes) }
         ensures kept { Keeps (IsId store.old) (tree store.old) (IsId store.new) (tree store.new) }
     {
         let formula = branch.formula();
@@ -98,7 +99,7 @@ impl Work<'_> {
         }
         let left = others(self.alloc, branch.left(), choice.name)?;
         let reach = reach_with(&left, choice.points.len());
-        let effort = budget.effort();
+        let effort = &mut budget.effort;
         let children = match self.children(
             rt, store, formula, &choice, workers, reach, effort, gate,
         ) {
@@ -124,8 +125,8 @@ fn reach_with(left: &[VarId], points: usize) -> Reach {
     }
 }
 
-// Whether the branches are one that is `true`, whose other names do not matter.
-fn settles(store: &Store, branches: &[Branch]) -> bool
+/// Whether the branches are one that is `true`, whose other names do not matter.
+pub(crate) fn settles(store: &Store, branches: &[Branch]) -> bool
     requires { EachOf (λ b. IsId store.now b.formula) branches.now }
     ensures { IsTrue result → IsSettled store.now branches.now }
 {

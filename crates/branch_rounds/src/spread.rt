@@ -76,8 +76,8 @@ impl Spread {
     }
 }
 
-// Whether the names are the same, in the same order.
-fn same_names(these: &[VarId], those: &[VarId]) -> bool
+/// Whether the names are the same, in the same order.
+pub(crate) fn same_names(these: &[VarId], those: &[VarId]) -> bool
     ensures { IsTrue result → these.now ≡ those.now }
 {
     these == those
