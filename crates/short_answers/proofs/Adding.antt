@@ -1,11 +1,12 @@
 -- Names and atoms that are added to lists.
-use Rattle.std.proofs.Common.{◌≡◌, ℕ, ◌<◌, ◌||◌, Bool, true, false, nat_eq, List, [], ◌∷◌, ◌++◌, length, get_or, reverse, zero, suc, sym, subst, inl, inr, arith, refl}
-use Rattle.std.proofs.lemmas.Bool.{eq-eqb}
+use Rattle.std.proofs.Common.{◌≡◌, ℕ, ◌<◌, ◌≤◌, ◌||◌, Bool, true, false, nat_eq, List, [], ◌∷◌, ◌++◌, length, get_or, take, reverse, zero, suc, sym, subst, inl, inr, arith, refl}
+use Rattle.std.proofs.lemmas.Bool.{eq-eqb, eqb-true}
 use mathlib.Core.List.{reverse-cons}
 use Rattle.std.specs.List.{list_any}
 use Rattle.logic_meaning.specs.Some.{EachOf, SomeOf}
 use Rattle.formula_laws.specs.StandsOnce.{StandsOnce}
 use Rattle.logic_meaning.specs.declared.form.VarId.{VarId}
+use Rattle.formula_store.specs.declared.id.FormulaId.{FormulaId}
 use Rattle.branch_rounds.specs.Branches.{numbers}
 
 pub each_then : {X : Type 0} (P : X → Type 0) (xs : List X) (x : X) → EachOf P xs → P x → EachOf P (xs ++ x ∷ [])
@@ -25,6 +26,20 @@ pub some_here : {X : Type 0} (P : X → Type 0) (xs : List X) (i : ℕ) (d : X) 
 some_here P [] i d h e = absurd (omega arith)
 some_here P (x ∷ xs) zero d h e = inl e
 some_here P (x ∷ xs) (suc i) d h e = inr (some_here P xs i d (omega arith) e)
+
+pub each_whole : {X : Type 0} (P : X → Type 0) (xs : List X) (i : ℕ) → length xs ≤ i → EachOf P (take i xs) → EachOf P xs
+each_whole P [] i h e = tt
+each_whole P (x ∷ xs) zero h e = absurd (omega arith)
+each_whole P (x ∷ xs) (suc i) h e = (e.0, each_whole P xs i (omega arith) e.1)
+
+-- what holds of each holds of one that is found
+pub each_found : (P : FormulaId → Type 0) (m : FormulaId) (xs : List FormulaId) → list_any (λ (y : FormulaId). nat_eq y.number m.number) xs ≡ true → EachOf P xs → P m
+each_found P m [] e h = cc
+each_found P m (x ∷ xs) e h = first_or_rest (λ q. each_found P m xs q h.1) (nat_eq x.number m.number) refl e
+  where
+    first_or_rest : (list_any (λ (y : FormulaId). nat_eq y.number m.number) xs ≡ true → P m) → (b : Bool) → nat_eq x.number m.number ≡ b → (b || list_any (λ (y : FormulaId). nat_eq y.number m.number) xs) ≡ true → P m
+    first_or_rest rest true q found = subst P (λ i. record { number = eqb-true x.number m.number q i }) h.0
+    first_or_rest rest false q found = rest found
 
 pub each_reversed : {X : Type 0} (P : X → Type 0) (xs : List X) → EachOf P xs → EachOf P (reverse xs)
 each_reversed P [] h = tt

@@ -11,6 +11,7 @@ use Rattle.formula_tree.specs.declared.shape.Shape.{Shape}
 use Rattle.formula_tree.specs.Trees.{members}
 use Rattle.formula_store.specs.declared.id.FormulaId.{FormulaId}
 use Rattle.virtual_subst.specs.Shared.{IsAtPlace}
+use Rattle.shape_theory.specs.Simplifiable.{EquivalentUnder}
 use Rattle.case_theory.specs.Under.{Lack}
 use Rattle.case_theory.specs.PutThrough.{AreTrue}
 use Rattle.branch_rounds.specs.declared.work.Work.{Work}
@@ -27,11 +28,11 @@ pub all_lack : (ks : List Atom) (names : List ℕ) → ks ≡ [] → EachOf (Lac
 all_lack ks [] e = tt
 all_lack ks (x ∷ names) e = (subst (λ (ls : List Atom). Lack ls x) (sym e) tt, all_lack ks names e)
 
-module _ (w u : Work) (same : u.context ≡ w.context) (none : map atom_of u.assumed.now ≡ []) (fs all : List Tree) (matrix : Tree) (listed : all ≡ assumptions w ++ fs) (folded : matrix ≡ fold_list Conjunction (members all))
+module _ (w u : Work) (same : u.context ≡ w.context) (none : map atom_of u.assumed.now ≡ []) (fs all : List Tree) (whole matrix : Tree) (listed : all ≡ assumptions w ++ fs) (folded : whole ≡ fold_list Conjunction (members all)) (pruned : EquivalentUnder (context_of u.context) [] whole matrix)
     (names : List ℕ) (nodes : List (Shape FormulaId)) (bs : List Seen) (are : AreBranchesOf u matrix names nodes bs) where
   pub answered : (a : Answer) → IsToldBy nodes bs a → IsAnswerTo w fs a
   answered Nowhere h =
       subst (λ (d : code.Context). IsAnswerTo (record w { context = d }) fs Nowhere) same
-      (never_together w (context_of u.context) fs all matrix listed folded (λ p o. matrix_never u matrix names nodes bs are h p o (subst (λ (ks : List Atom). AreTrue ks p) (sym none) tt)))
+      (never_together w (context_of u.context) fs all whole listed folded (λ p o t. matrix_never u matrix names nodes bs are h p o (subst (λ (ks : List Atom). AreTrue ks p) (sym none) tt) ((pruned p o tt).0 t)))
   answered (At points) h = subst (λ (d : code.Context). EachOf (IsAtPlace d) points.items) same (branch_points_are u nodes matrix names bs points.items are h)
   answered Unknown h = tt

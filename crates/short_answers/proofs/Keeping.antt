@@ -13,6 +13,7 @@ use Rattle.formula_tree.specs.Makers.{AreMade, IsMade, Keeps}
 use Rattle.formula_tree.specs.Trees.{members}
 use Rattle.formula_store.specs.declared.id.FormulaId.{FormulaId}
 use Rattle.formula_store.specs.Nodes.{tree, IsId}
+use Rattle.formula_store.proofs.Makes.{keeps_then}
 use Rattle.logic_meaning.specs.declared.form.VarId.{VarId}
 use Rattle.logic_meaning.specs.NegationNormal.{normal_form_of_not}
 use Rattle.logic_meaning.specs.NormalForm.{negated_normal}
@@ -30,6 +31,12 @@ KeepsAll a b = Keeps (IsId a) (tree a) (IsId b) (tree b)
 
 pub kept_self : (a : List (Shape FormulaId)) → KeepsAll a a
 kept_self a = record { is = λ id h. h; same = λ id h. refl }
+
+pub kept_thrice : (a b c d : List (Shape FormulaId)) → KeepsAll a b → KeepsAll b c → KeepsAll c d → KeepsAll a d
+kept_thrice a b c d h k l = keeps_then a c d (keeps_then a b c h k) l
+
+pub made_kept : (a b : List (Shape FormulaId)) → KeepsAll a b → (id : FormulaId) (f : Tree) → IsMade (IsId a) (tree a) id f → IsMade (IsId b) (tree b) id f
+made_kept a b k id f m = record { is = k.is id m.is; same = k.same id m.is ∙ m.same }
 
 module _ (c : Context) (a b : List (Shape FormulaId)) (k : KeepsAll a b) where
   pub tidy_kept : (id : FormulaId) → IsTidyId c a id → IsTidyId c b id
@@ -55,6 +62,10 @@ module _ (c : Context) (nodes : List (Shape FormulaId)) where
   pub ids_of : (ids : List FormulaId) → AreTidyIds c nodes ids → AllByRecursion (IsId nodes) ids
   ids_of [] h = tt
   ids_of (id ∷ ids) h = (h.0.is, ids_of ids h.1)
+
+  pub each_is : (ids : List FormulaId) → AreTidyIds c nodes ids → EachOf (IsId nodes) ids
+  each_is [] h = tt
+  each_is (id ∷ ids) h = (h.0.is, each_is ids h.1)
 
   pub tidy_of : (ids : List FormulaId) → AreTidyIds c nodes ids → AreTidy c (members (map (tree nodes) ids))
   tidy_of [] h = tt

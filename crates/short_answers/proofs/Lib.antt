@@ -6,3 +6,7 @@ pub mod Answered
 pub mod Licensed
 pub mod Steps
 pub mod Candidate
+pub mod Distributed
+pub mod Covering
+pub mod Hulls
+pub mod Constants

@@ -1,9 +1,8 @@
 -- A formula that is shortened step by step.
-use Rattle.std.proofs.Common.{◌≡◌, ℕ, List, map, sym, subst, ⊎_elim, arith}
+use Rattle.std.proofs.Common.{◌≡◌, ℕ, List, map, sym, subst, ◌∙◌, arith}
 use Rattle.logic_meaning.specs.Tree.{Tree, IsFree}
 use Rattle.logic_meaning.specs.Trees.{IsReduced}
 use Rattle.shape_theory.specs.Simplifiable.{EquivalentUnder}
-use Rattle.shape_theory.specs.Texts.{IsNoLarger}
 use Rattle.normal_atoms.specs.Atoms.{context_of, atom_of}
 use Rattle.formula_tree.specs.declared.shape.Shape.{Shape}
 use Rattle.formula_store.specs.declared.id.FormulaId.{FormulaId}
@@ -14,9 +13,10 @@ use Rattle.case_theory.proofs.Under.{under_then}
 use Rattle.branch_pruning.specs.Pruned.{IsPrunedTo}
 use Rattle.branch_rounds.specs.declared.work.Work.{Work}
 use Rattle.text_extents.specs.Extents.{IsNeverLarger}
-use Rattle.short_answers.specs.Asking.{IsTidyId}
-use Rattle.short_answers.specs.Shorter.{IsConstant, IsShortenedTo}
+use Rattle.short_answers.specs.Asking.{FollowsUnder, IsFollowing, IsTidyId}
+use Rattle.short_answers.specs.Shorter.{IsShortenedTo}
 use Rattle.short_answers.proofs.Keeping.{KeepsAll}
+use Rattle.short_answers.proofs.Licensed.{same_truth}
 
 module _ (w : Work) where
   -- a formula that stays
@@ -50,32 +50,6 @@ module _ (w : Work) where
     never_larger = never_larger_then f (tree a one) (tree b two) h.never_larger k.never_larger;
   }
 
-  pub pruned_then : (f : Tree) (a b : List (Shape FormulaId)) (one two : FormulaId) → IsPrunedTo (context_of w.context) (map atom_of w.assumed.now) f a one → IsShortenedTo w (tree a one) b two →
-      IsPrunedTo (context_of w.context) (map atom_of w.assumed.now) f b two
-  pruned_then f a b one two h k =
-      let m = h.no_larger.nodes in
-      let n = k.never_larger.nodes in
-      record {
-        is = k.is;
-        worked = (working_goes_on (context_of w.context) (map atom_of w.assumed.now)).further f (tree a one) (tree b two) h.worked k.worked;
-        reduced = k.reduced h.reduced;
-        no_larger = record {
-          nodes = omega arith;
-          text = λ names long within. let u = h.no_larger.text names long within in let v = k.never_larger.text names in omega arith;
-        };
-      }
-
-  pub pruned_kept : (f : Tree) (a b : List (Shape FormulaId)) (id : FormulaId) → KeepsAll a b → IsPrunedTo (context_of w.context) (map atom_of w.assumed.now) f a id → IsPrunedTo (context_of w.context) (map atom_of w.assumed.now) f b id
-  pruned_kept f a b id k h = subst_all (k.same id h.is)
-    where
-      subst_all : tree b id ≡ tree a id → IsPrunedTo (context_of w.context) (map atom_of w.assumed.now) f b id
-      subst_all e = record {
-        is = k.is id h.is;
-        worked = subst (IsWorked (context_of w.context) (map atom_of w.assumed.now) f) (sym e) h.worked;
-        reduced = subst (λ g. IsReduced (context_of w.context) g (map atom_of w.assumed.now)) (sym e) h.reduced;
-        no_larger = subst (IsNoLarger f) (sym e) h.no_larger;
-      }
-
   -- what has the truth of f, simplified, is f shortened where it is never larger and has no other names
   pub simplified_other : (f g : Tree) (nodes : List (Shape FormulaId)) (id : FormulaId) → EquivalentUnder (context_of w.context) (map atom_of w.assumed.now) f g → IsPrunedTo (context_of w.context) (map atom_of w.assumed.now) g nodes id →
       IsNeverLarger f (tree nodes id) → ((x : ℕ) → IsFree (tree nodes id) x → IsFree f x) → IsShortenedTo w f nodes id
@@ -86,15 +60,13 @@ module _ (w : Work) where
     never_larger = small;
   }
 
-  -- a constant stays
-  pub constant_pruned : (nodes : List (Shape FormulaId)) (id : FormulaId) → IsTidyId (context_of w.context) nodes id → IsConstant (tree nodes id) → IsPrunedTo (context_of w.context) (map atom_of w.assumed.now) (tree nodes id) nodes id
-  constant_pruned nodes id t k = record {
-    is = t.is;
-    worked = (working_goes_on (context_of w.context) (map atom_of w.assumed.now)).itself (tree nodes id) t.tidy;
-    reduced =
-        ⊎_elim
-        (λ e. subst (λ g. IsReduced (context_of w.context) g (map atom_of w.assumed.now)) (sym e) tt)
-        (λ e. subst (λ g. IsReduced (context_of w.context) g (map atom_of w.assumed.now)) (sym e) tt)
-        k;
-    no_larger = record { nodes = omega arith; text = λ names long within. omega arith };
-  }
+  -- two formulas of which each follows from the other
+  pub same_of_both : (old now new : List (Shape FormulaId)) (id other : FormulaId) → KeepsAll old now → KeepsAll now new → IsTidyId (context_of w.context) old id → IsFollowing w (tree old id) now other →
+      FollowsUnder (context_of w.context) (map atom_of w.assumed.now) (tree now other) (tree now id) → EquivalentUnder (context_of w.context) (map atom_of w.assumed.now) (tree new id) (tree new other)
+  same_of_both old now new id other before after t follows back =
+      let c = context_of w.context in
+      let ks = map atom_of w.assumed.now in
+      let one : tree new id ≡ tree old id = after.same id (before.is id t.is) ∙ before.same id t.is in
+      let two : tree new other ≡ tree now other = after.same other follows.tidy.is in
+      subst (λ (f : Tree). EquivalentUnder c ks f (tree new other)) (sym one)
+      (subst (λ (g : Tree). EquivalentUnder c ks (tree old id) g) (sym two) (same_truth c ks (tree old id) (tree now other) follows.follows (subst (FollowsUnder c ks (tree now other)) (before.same id t.is) back)))

@@ -48,6 +48,14 @@ NeverTogether c ks fs = (p : Point ℕ) → Of c p → AreTrue ks p → ¬ (Each
 abbrev pub FollowsUnder : Context → List Atom → Tree → Tree → Type 0
 FollowsUnder c ks f g = (p : Point ℕ) → Of c p → AreTrue ks p → TrueAt c f p → TrueAt c g p
 
+-- a tidy formula that follows from f under the assumptions
+pub record IsFollowing (w : Work) (f : Tree) (nodes : List (Shape FormulaId)) (id : FormulaId) : Type 0 where
+  pub tidy : IsTidyId (context_of w.context) nodes id
+  pub follows : FollowsUnder (context_of w.context) (map atom_of w.assumed.now) f (tree nodes id)
+
+abbrev pub AreFollowing : Work → Tree → List (Shape FormulaId) → List FormulaId → Type 0
+AreFollowing w f nodes ids = EachOf (IsFollowing w f nodes) ids
+
 -- what the answer says of the formulas under the assumptions
 abbrev pub IsAnswerTo : Work → List Tree → Answer → Type 0
 IsAnswerTo w fs Nowhere = NeverTogether (context_of w.context) (map atom_of w.assumed.now) fs

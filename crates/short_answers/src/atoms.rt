@@ -1,6 +1,7 @@
 //! The atoms of a formula, and the names in atoms.
 
 ghost use Rattle.std.specs.Prelude.{IfOk, OnOk, map};
+ghost use Rattle.std.specs.List.{AllByRecursion};
 ghost use Rattle.logic_meaning.specs.Formula.{One};
 ghost use Rattle.logic_meaning.specs.Some.{EachOf};
 ghost use Rattle.formula_laws.specs.StandsOnce.{StandsOnce};
@@ -22,6 +23,37 @@ pub(crate) fn atoms_in(alloc: Global, store: &Store, id: FormulaId) -> Result<Ve
     ensures { IfOk result (λ v. EachOf IsWellFormed v.items) }
 {
     let mut atoms = Vec::new(alloc);
+    add_atoms(alloc, store, id, &mut atoms)?;
+    Ok(atoms)
+}
+
+/// The atoms that stand in the formulas. Its only error is want of memory.
+pub(crate) fn atoms_in_all(
+    alloc: Global,
+    store: &Store,
+    formulas: &[FormulaId],
+) -> Result<Vec<Atom>, AllocError>
+    requires { EachOf (IsId store.now) formulas.now }
+    ensures { IfOk result (λ v. EachOf IsWellFormed v.items) }
+{
+    let mut atoms = Vec::new(alloc);
+    for id in formulas {
+        add_atoms(alloc, store, *id, &mut atoms)?;
+    }
+    Ok(atoms)
+}
+
+// Adds the atoms that stand in the formula, each once.
+fn add_atoms(
+    alloc: Global,
+    store: &Store,
+    id: FormulaId,
+    atoms: &mut Vec<Atom>,
+) -> Result<(), AllocError>
+    requires id { IsId store.now id }
+    requires well_formed { EachOf IsWellFormed atoms.old.items }
+    ensures { OnOk result (EachOf IsWellFormed atoms.new.items) }
+{
     let Ok(ids) = store.subformulas(id) else {
         return Err(AllocError);
     };
@@ -31,7 +63,7 @@ pub(crate) fn atoms_in(alloc: Global, store: &Store, id: FormulaId) -> Result<Ve
             atoms.push(atom)?;
         }
     }
-    Ok(atoms)
+    Ok(())
 }
 
 /// The names that stand in the atoms of the two lists, each once. Its only error is want of memory.
@@ -114,4 +146,33 @@ pub(crate) fn formulas_of(
         ids.push(id)?;
     }
     Ok(ids)
+}
+
+/// Whether the formula is an atom or a conjunction of atoms.
+pub(crate) fn are_atoms(store: &Store, id: FormulaId) -> bool
+    requires { IsId store.now id }
+{
+    match store.shape(id) {
+        Shape::And(ids) => are_all_atoms(store, ids.items()),
+        _ => is_atom(store, id),
+    }
+}
+
+// Whether each of the formulas is an atom.
+fn are_all_atoms(store: &Store, ids: &[FormulaId]) -> bool
+    requires { AllByRecursion (IsId store.now) ids.now }
+{
+    for id in ids {
+        if !is_atom(store, *id) {
+            return false;
+        }
+    }
+    true
+}
+
+// Whether the formula is an atom.
+fn is_atom(store: &Store, id: FormulaId) -> bool
+    requires { IsId store.now id }
+{
+    matches!(store.shape(id), Shape::One(_))
 }

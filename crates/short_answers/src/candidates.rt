@@ -1,6 +1,7 @@
 //! Atoms that may follow from a formula, made of those that stand in it.
 
 ghost use Rattle.std.specs.Prelude.{◌≡◌, ◌≤◌, IfOk, OnOk, vec_len};
+ghost use Rattle.exact_numbers.specs.Limit.{InLimit};
 ghost use Rattle.logic_meaning.specs.Some.{EachOf};
 ghost use Rattle.normal_atoms.specs.declared.atoms.Atom.TheVariants.{Congruent};
 ghost use Rattle.normal_atoms.specs.declared.atoms.Context.TheVariants.{Fields, Integers};
@@ -10,7 +11,8 @@ ghost use Rattle.linear_forms.specs.FromFormulaLaws.{AtomIn, InContext};
 ghost use Rattle.virtual_subst.specs.Shared.{IsAtPlace};
 ghost use Rattle.short_answers.specs.Candidates.{AreCandidates, IsCandidate, IsModulus};
 
-use linear_forms::Linear;
+use exact_numbers::gcd;
+use linear_forms::{LinError, Linear};
 use normal_atoms::{Atom, AtomError, Context, Normal, Rel, normal};
 use std::alloc::{AllocError, Global};
 use test_points::{PointError, TestPoint, substitute_field, substitute_integer};
@@ -81,6 +83,83 @@ impl Candidates {
         Ok(())
     }
 
+    /// Adds of each two congruences of the atoms the congruence of their sum, and that of their difference, by the greatest common divisor
+    /// of their moduli.
+    pub(crate) fn add_sums(&mut self, atoms: &[Atom]) -> Result<(), AllocError>
+        requires well_formed { EachOf IsWellFormed atoms.now }
+        requires candidates { AreCandidates self.old.context self.old.atoms.items }
+        ensures context { OnOk result (self.new.context ≡ self.old.context) }
+        ensures candidates { OnOk result (AreCandidates self.new.context self.new.atoms.items) }
+    {
+        for atom in atoms {
+            if let (
+                Context::Integers,
+                Atom::Congruent {
+                    holds: true,
+                    modulus,
+                    form,
+                },
+            ) = (self.context, atom)
+            {
+                self.add_sums_with(*modulus, form, atoms)?;
+            }
+        }
+        Ok(())
+    }
+
+    // Adds of the congruence of a form by a modulus and each of the atoms the congruences of the sum and of the difference.
+    fn add_sums_with(
+        &mut self,
+        modulus: i128,
+        form: &Linear,
+        atoms: &[Atom],
+    ) -> Result<(), AllocError>
+        requires integers { self.old.context ≡ Integers }
+        requires modulus { IsModulus modulus }
+        requires well_formed { EachOf IsWellFormed atoms.now }
+        requires candidates { AreCandidates self.old.context self.old.atoms.items }
+        ensures context { OnOk result (self.new.context ≡ self.old.context) }
+        ensures candidates { OnOk result (AreCandidates self.new.context self.new.atoms.items) }
+    {
+        for atom in atoms {
+            if let Atom::Congruent {
+                holds: true,
+                modulus: other_modulus,
+                form: other,
+            } = atom
+            {
+                let shared = gcd(modulus, *other_modulus);
+                self.add_sum(shared, form, 1, other)?;
+                self.add_sum(shared, form, -1, other)?;
+            }
+        }
+        Ok(())
+    }
+
+    // Adds the congruence of a form and so many times another by a modulus, unless that is 1 or a number passes the limit.
+    fn add_sum(
+        &mut self,
+        modulus: i128,
+        form: &Linear,
+        times: i128,
+        other: &Linear,
+    ) -> Result<(), AllocError>
+        requires integers { self.old.context ≡ Integers }
+        requires within { InLimit modulus }
+        requires candidates { AreCandidates self.old.context self.old.atoms.items }
+        ensures context { OnOk result (self.new.context ≡ self.old.context) }
+        ensures candidates { OnOk result (AreCandidates self.new.context self.new.atoms.items) }
+    {
+        if modulus < 2 {
+            return Ok(());
+        }
+        match form.combine(self.alloc, 1, other, times) {
+            Ok(sum) => self.add_congruences(modulus, &sum),
+            Err(LinError::Overflow) => Ok(()),
+            Err(LinError::Memory) => Err(AllocError),
+        }
+    }
+
     // Adds the congruences of a form by the divisors of a modulus.
     fn add_divisors(&mut self, modulus: i128, form: &Linear) -> Result<(), AllocError>
         requires integers { self.old.context ≡ Integers }
@@ -93,10 +172,10 @@ impl Candidates {
         if i128::from(MOST_DIVIDED) < modulus {
             return Ok(());
         }
-        for divisor in 2..MOST_DIVIDED {
-            let divisor = i128::from(divisor);
-            if divisor < modulus && modulus % divisor == 0 {
-                self.add_congruences(divisor, form)?;
+        for quotient in 2..MOST_DIVIDED {
+            let quotient = i128::from(quotient);
+            if quotient < modulus && modulus % quotient == 0 {
+                self.add_congruences(modulus / quotient, form)?;
             }
         }
         Ok(())

@@ -1,9 +1,10 @@
 use Rattle.std.proofs.Common.{◌≡◌, vec_len}
-use Rattle.normal_atoms.specs.Atoms.{context_of}
+use Rattle.logic_meaning.specs.Tree.{Tree}
 use Rattle.formula_tree.specs.Makers.{Keeps}
 use Rattle.formula_store.specs.Nodes.{tree, IsId}
-use Rattle.short_answers.specs.Asking.{AreTidyIds}
+use Rattle.short_answers.specs.Asking.{AreFollowing}
 use Rattle.short_answers.specs.Candidates.{AreCandidates}
+use Rattle.short_answers.specs.Cases.{AreCasesOf}
 use Rattle.short_answers.proofs.asking.Asker.following.Given as goal
 
 abbrev pub invariant-loop-atom : goal.invariant-loop-atom
@@ -11,7 +12,7 @@ invariant-loop-atom g l = record {
   kept : Keeps (IsId l.fn.store) (tree l.fn.store) (IsId l.store) (tree l.store);
   context : l.candidates.context ≡ l.fn.candidates.context;
   candidates : AreCandidates l.candidates.context l.candidates.atoms.items;
-  following : AreTidyIds (context_of l.self.work.now.context) l.store l.following.items;
+  following : (f : Tree) → AreCasesOf f l.fn.store l.cases → AreFollowing l.self.work.now f l.store l.following.items;
 }
 
 abbrev pub decreases-loop-atom : goal.decreases-loop-atom

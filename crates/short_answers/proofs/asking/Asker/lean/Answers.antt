@@ -2,10 +2,25 @@ use Rattle.std.proofs.Common.{List, sym, subst}
 use Rattle.normal_atoms.specs.Atoms.{context_of}
 use Rattle.formula_store.specs.declared.id.FormulaId.{FormulaId}
 use Rattle.formula_store.proofs.Makes.{keeps_then}
-use Rattle.short_answers.specs.Asking.{IsTidyId, AreTidyIds}
-use Rattle.short_answers.proofs.Adding.{each_front}
-use Rattle.short_answers.proofs.Keeping.{asking_kept, all_kept}
+use Rattle.short_answers.specs.Asking.{AreFollowing, AreTidyIds, IsFollowing, IsTidyId}
+use Rattle.short_answers.proofs.Adding.{each_front, each_reversed}
+use Rattle.short_answers.proofs.Hulls.{following_kept}
+use Rattle.short_answers.proofs.Keeping.{asking_kept, all_kept, kept_self}
 use Rattle.short_answers.proofs.asking.Asker.lean.Goals as goal
+
+pub loop-id-init : goal.loop-id-init
+loop-id-init g c =
+    let w = c.args.self.now.work.now in
+    let o = context_of w.context in
+    let n = c.args.store.now in
+    let left : List FormulaId = c.args.left.items in
+    record {
+      kept = kept_self n;
+      left = subst (AreTidyIds o n) (sym c.reverse.ensures.items) (each_reversed (IsTidyId o n) left c.requires.left);
+      lean = subst (AreTidyIds o n) (sym c.new-lean.ensures.items) tt;
+      left_following = λ f each. subst (AreFollowing w f n) (sym c.reverse.ensures.items) (each_reversed (IsFollowing w f n) left each);
+      lean_following = λ f each. subst (AreFollowing w f n) (sym c.new-lean.ensures.items) tt;
+    }
 
 pub add_unless_implied-requires-clause-asking : goal.add_unless_implied-requires-clause-asking
 add_unless_implied-requires-clause-asking g c κs within =
@@ -27,13 +42,26 @@ returns-in_err-add_unless_implied-clause-kept g c = keeps_then c.args.store.now 
 
 pub loop-id-preserved : goal.loop-id-preserved
 loop-id-preserved g c =
-    let o = context_of c.args.self.now.work.now.context in
+    let w = c.args.self.now.work.now in
+    let o = context_of w.context in
     let old = c.loop-id.store in
     let new = c.add_unless_implied.new.store in
+    let all : List FormulaId = c.loop-id.left.items in
     let left : List FormulaId = c.pop.new.self.items in
-    let r = each_front (IsTidyId o old) c.loop-id.left.items left c.in-Some.id c.in-Some.ensures.items c.loop-id.invariant.left in
+    let i = c.loop-id.invariant in
+    let r = each_front (IsTidyId o old) all left c.in-Some.id c.in-Some.ensures.items i.left in
     record {
-      kept = keeps_then c.args.store.now old new c.loop-id.invariant.kept c.add_unless_implied.ensures.kept;
+      kept = keeps_then c.args.store.now old new i.kept c.add_unless_implied.ensures.kept;
       left = all_kept o old new c.add_unless_implied.ensures.kept left r.0;
-      lean = c.in_ok-add_unless_implied.ensures.lean;
+      lean = c.in_ok-add_unless_implied.ensures.tidy;
+      left_following = λ f each. following_kept w f old new left c.add_unless_implied.ensures.kept (each_front (IsFollowing w f old) all left c.in-Some.id c.in-Some.ensures.items (i.left_following f each)).0;
+      lean_following = λ f each.
+          c.in_ok-add_unless_implied.ensures.following f (each_front (IsFollowing w f old) all left c.in-Some.id c.in-Some.ensures.items (i.left_following f each)).1 (i.lean_following f each);
     }
+
+pub returns-clause-following : goal.returns-clause-following
+returns-clause-following g c =
+    let w = c.args.self.now.work.now in
+    let n = c.loop-id.store in
+    let lean : List FormulaId = c.loop-id.lean.items in
+    λ f each. subst (AreFollowing w f n) (sym c.reverse-2.ensures.items) (each_reversed (IsFollowing w f n) lean (c.loop-id.invariant.lean_following f each))
