@@ -8,6 +8,7 @@ pub mod Under
 pub mod InnerBlocksChains
 mod OneMore
 mod Trees
+mod ShortCases
 mod WorkingFacts
 mod DirectForms
 mod DirectTrees

@@ -42,7 +42,7 @@ use Rattle.engine_answers.proofs.WorkingFacts.{whole_work}
 
 -- ---- lists under a function
 
-to_mapped : {X Y : Type 0} (P : Y → Type 0) (f : X → Y) (xs : List X) → EachOf (λ x. P (f x)) xs → EachOf P (map f xs)
+pub to_mapped : {X Y : Type 0} (P : Y → Type 0) (f : X → Y) (xs : List X) → EachOf (λ x. P (f x)) xs → EachOf P (map f xs)
 to_mapped P f [] h = tt
 to_mapped P f (x ∷ xs) h = (h.0, to_mapped P f xs h.1)
 

@@ -7,6 +7,7 @@ pub mod Listed
 pub mod Tasks
 pub mod Direct
 pub mod CaseTrees
+pub mod Thinned
 pub mod Searches
 pub mod Points
 pub mod Branches

@@ -36,8 +36,8 @@ pub fn guards_together(
     disjunction(store, guards)
 }
 
-// The guards of the cases, in order.
-fn guards_of(alloc: Global, cases: &[Case]) -> Result<Vec<FormulaId>, AllocError>
+/// The guards of the cases, in order. Its only error is want of memory.
+pub(crate) fn guards_of(alloc: Global, cases: &[Case]) -> Result<Vec<FormulaId>, AllocError>
     ensures { IfOk result (λ v. v.items ≡ map (λ k. k.guard) cases.now) }
 {
     cases.iter().map(|case| case.guard).collect(alloc)

@@ -18,6 +18,7 @@ use branch_rounds::{
 use formula_store::{FormulaId, Store};
 use logic_meaning::{Junction, Quantifier, VarId};
 use qe_parallel::Gate;
+use short_answers::shortened;
 use std::alloc::{AllocError, Global};
 use std::thread::Threads;
 
@@ -68,7 +69,8 @@ impl Block<'_> {
             Reach::Whole,
             budget.effort(),
         )?;
-        Ok(asked(alloc, store, self.quantifier, small)?)
+        let short = shortened(rt, self.work, budget, store, small, gate)?;
+        Ok(asked(alloc, store, self.quantifier, short)?)
     }
 }
 

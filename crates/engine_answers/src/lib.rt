@@ -24,6 +24,7 @@ mod referred;
 mod samples;
 mod sampling;
 mod search;
+mod short;
 mod task;
 mod truths;
 mod verdict;

@@ -7,6 +7,7 @@ pub mod CasesFor
 pub mod ConditionsFor
 pub mod DirectConditions
 pub mod ByCases
+pub mod ShortConditions
 pub mod LowestTerms
 pub mod LowestPlaces
 pub mod LowestAnswers

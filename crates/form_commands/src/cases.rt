@@ -55,7 +55,8 @@ pub fn wanted_cases<R: Threads + Sync, G: Gate + Sync>(
     }
 }
 
-/// The cases that the engine finds, as they are left under the atoms, with their answers in lowest terms.
+/// The cases that the engine finds, without those that others cover, as they are left under the atoms, with their answers in lowest
+/// terms.
 fn cases_by_cases<R: Threads + Sync, G: Gate + Sync>(
     engine: &Engine<'_, R, G>,
     store: &mut Store,
@@ -73,7 +74,7 @@ fn cases_by_cases<R: Threads + Sync, G: Gate + Sync>(
     ensures fault { IfErr result (CasesFault (context_of engine.now.context) engine.now.limits.nodes (tree store.old id)) }
     ensures kept { Keeps (IsId store.old) (tree store.old) (IsId store.new) (tree store.new) }
 {
-    let case_tree = match engine.cases(store, id, atoms) {
+    let case_tree = match engine.short_cases(store, id, atoms) {
         Ok(case_tree) => case_tree,
         Err(error) => return Err(measured_error(error)),
     };

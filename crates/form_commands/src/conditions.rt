@@ -11,6 +11,8 @@ ghost use Rattle.logic_meaning.specs.NormalForm.{IsNormal, negated_normal};
 ghost use Rattle.shape_theory.specs.Orderly.{IsOrderly};
 ghost use Rattle.formula_tree.specs.Makers.{IsMade, Keeps};
 ghost use Rattle.formula_store.specs.Nodes.{tree, IsId};
+ghost use Rattle.short_answers.specs.Asking.{IsTidyId};
+ghost use Rattle.short_answers.specs.Shorter.{IsConstant, IsShort};
 ghost use Rattle.engine_answers.specs.CaseTrees.{cases_seen, guards_together};
 ghost use Rattle.form_commands.specs.Conditions.{said_of, IsConditionByCases};
 ghost use Rattle.form_commands.specs.Faults.{ConditionFault, SimplificationFault};
@@ -26,9 +28,9 @@ use qe_parallel::Gate;
 use std::alloc::Global;
 use std::thread::Threads;
 
-/// A condition for the formula under the atoms, by cases: what the guards say together, simplified. Where that has more nodes than the
-/// limit the reference elimination answers. So `Overflow` and `Nodes` come only where it stops with that word, and over the fields
-/// neither comes of a formula whose negation normal form is direct.
+/// A condition for the formula under the atoms, by cases: what the guards say together, simplified and shortened. Where that has more
+/// nodes than the limit as it stands, the reference elimination answers. So `Overflow` and `Nodes` come only where it stops with that
+/// word, and over the fields neither comes of a formula whose negation normal form is direct.
 pub(crate) fn condition_by_cases<R: Threads + Sync, G: Gate + Sync>(
     engine: &Engine<'_, R, G>,
     store: &mut Store,
@@ -51,7 +53,7 @@ pub(crate) fn condition_by_cases<R: Threads + Sync, G: Gate + Sync>(
         Err(error) => return Err(measured_error(error)),
     };
     match said(alloc, store, context, limit, &case_tree, atoms) {
-        Ok(id) => Ok(id),
+        Ok(id) => shortened(engine, store, id, atoms),
         Err(FormsError::Nodes) => simplified_answer(alloc, store, context, limit, id, atoms),
         Err(_) => Err(FormsError::Memory),
     }
@@ -108,4 +110,26 @@ fn opposite(alloc: Global, store: &mut Store, id: FormulaId) -> Result<FormulaId
         return Err(FormsError::Memory);
     };
     negated(alloc, store, None, negation)
+}
+
+/// The formula shortened under the atoms.
+fn shortened<R: Threads + Sync, G: Gate + Sync>(
+    engine: &Engine<'_, R, G>,
+    store: &mut Store,
+    id: FormulaId,
+    atoms: &[Atom],
+) -> Result<FormulaId, FormsError>
+    requires workers { 1 ≤ engine.now.limits.workers }
+    requires id { IsTidyId (context_of engine.now.context) store.old id }
+    requires atoms { EachOf (IsNormal (context_of engine.now.context)) (map atom_of atoms.now) }
+    requires well_formed { AllByRecursion IsWellFormed atoms.now }
+    ensures shortened { IfOk result (IsShort (context_of engine.now.context) (map atom_of atoms.now) (tree store.old id) store.new) }
+    ensures constant { IfOk result (λ r. IsConstant (tree store.old id) → tree store.new r ≡ tree store.old id) }
+    ensures memory { IfErr result (λ e. e ≡ FormsError.Memory) }
+    ensures kept { Keeps (IsId store.old) (tree store.old) (IsId store.new) (tree store.new) }
+{
+    match engine.shortened(store, id, atoms) {
+        Ok(id) => Ok(id),
+        Err(_) => Err(FormsError::Memory),
+    }
 }

@@ -19,15 +19,15 @@ returns-in-Err-clause-fault g c =
 
 pub left_guards-left-requires-clause-orderly : goal.left_guards-left-requires-clause-orderly
 left_guards-left-requires-clause-orderly g c =
-    seen_orderly c.args.engine.now.context (map atom_of c.args.atoms.now) (tree c.args.store.now c.args.id) c.requires.normal c.cases.new.store c.in-Ok.case_tree c.in-Ok.ensures.cases
+    seen_orderly c.args.engine.now.context (map atom_of c.args.atoms.now) (tree c.args.store.now c.args.id) c.requires.normal c.short_cases.new.store c.in-Ok.case_tree c.in-Ok.ensures.cases
 
 pub returns-in_default-clause-kept : goal.returns-in_default-clause-kept
-returns-in_default-clause-kept g c = keeps_then c.args.store.now c.cases.new.store c.left_guards-left.new.store c.cases.ensures.kept c.left_guards-left.ensures.kept
+returns-in_default-clause-kept g c = keeps_then c.args.store.now c.short_cases.new.store c.left_guards-left.new.store c.short_cases.ensures.kept c.left_guards-left.ensures.kept
 
 -- what is left, before it is brought to lowest terms
 left_for : (g : Over) (c : goal.After-drop-case_tree-in-Ok-lowest_cases g) → AreCasesFor (context_of c.args.engine.now.context) (map atom_of c.args.atoms.now) (tree c.args.store.now c.args.id) (map case_seen c.in-Ok-left.left.items)
 left_for g c =
-    seen_left c.args.engine.now.context (map atom_of c.args.atoms.now) (tree c.args.store.now c.args.id) c.requires.normal c.cases.new.store c.in-Ok.case_tree c.in-Ok.ensures.cases (map case_seen c.in-Ok-left.left.items) c.in-Ok-left.ensures.left
+    seen_left c.args.engine.now.context (map atom_of c.args.atoms.now) (tree c.args.store.now c.args.id) c.requires.normal c.short_cases.new.store c.in-Ok.case_tree c.in-Ok.ensures.cases (map case_seen c.in-Ok-left.left.items) c.in-Ok-left.ensures.left
 
 pub returns-in-Ok-lowest_cases-clause-cases : goal.returns-in-Ok-lowest_cases-clause-cases
 returns-in-Ok-lowest_cases-clause-cases g c =
@@ -40,7 +40,7 @@ returns-in-Ok-lowest_cases-clause-lowest g c =
     lowest_there (context_of c.args.engine.now.context) (map atom_of c.args.atoms.now) (tree c.args.store.now c.args.id) (map case_seen c.in-Ok-left.left.items) done.cases.items (left_for g c) done.ensures.cases
 
 pub returns-in-Ok-lowest_cases-clause-kept : goal.returns-in-Ok-lowest_cases-clause-kept
-returns-in-Ok-lowest_cases-clause-kept g c = keeps_then c.args.store.now c.cases.new.store c.left_guards-left.new.store c.cases.ensures.kept c.left_guards-left.ensures.kept
+returns-in-Ok-lowest_cases-clause-kept g c = keeps_then c.args.store.now c.short_cases.new.store c.left_guards-left.new.store c.short_cases.ensures.kept c.left_guards-left.ensures.kept
 
 pub returns-clause-kept : goal.returns-clause-kept
-returns-clause-kept g c = keeps_then c.args.store.now c.cases.new.store c.left_guards-left.new.store c.cases.ensures.kept c.left_guards-left.ensures.kept
+returns-clause-kept g c = keeps_then c.args.store.now c.short_cases.new.store c.left_guards-left.new.store c.short_cases.ensures.kept c.left_guards-left.ensures.kept

@@ -12,6 +12,7 @@ use Rattle.form_commands.specs.Faults.{EliminationFault, ConditionFault}
 use Rattle.form_commands.specs.Forms.{IsSimplifiedAnswer}
 use Rattle.form_commands.proofs.ByCases.{by_cases, by_reference, engine_refused, large_of, memory_fault, reference_refused, seen_together_orderly}
 use Rattle.form_commands.proofs.CaseLemmas.{err_map}
+use Rattle.form_commands.proofs.ShortConditions.{condition_tidy, shortened_result}
 use Rattle.form_commands.proofs.conditions.condition_by_cases.Goals as goal
 
 pub returns-in-Err-clause-fault : goal.returns-in-Err-clause-fault
@@ -25,13 +26,39 @@ pub said-requires-clause-orderly : goal.said-requires-clause-orderly
 said-requires-clause-orderly g c =
     seen_together_orderly c.args.engine.now.context (map atom_of c.args.atoms.now) (tree c.args.store.now c.args.id) c.requires.normal c.cases.new.store c.in-Ok.case_tree c.in-Ok.ensures.cases
 
+pub shortened-requires-clause-id : goal.shortened-requires-clause-id
+shortened-requires-clause-id g c κs within =
+    let k = context_of c.args.engine.now.context in
+    let f = tree c.args.store.now c.args.id in
+    let said =
+    by_cases c.args.engine.now.context (map atom_of c.args.atoms.now) f c.requires.normal c.cases.new.store c.in-Ok.case_tree c.in-Ok.ensures.cases c.args.engine.now.limits.nodes c.in-Ok.ensures.direct (tree c.said.new.store c.in-Ok-said.id)
+    c.in-Ok-said.ensures.said c.in-Ok-said.ensures.small in
+    condition_tidy k (map atom_of c.args.atoms.now) c.args.engine.now.limits.nodes f c.said.new.store c.in-Ok-said.id c.in-Ok-said.ensures.made said.condition
+
+pub returns-in-Ok-said-clause-made : goal.returns-in-Ok-said-clause-made
+returns-in-Ok-said-clause-made g c = ok_map c.shortened.result (λ r s. s.is) c.shortened.ensures.shortened
+
 pub returns-in-Ok-said-clause-condition : goal.returns-in-Ok-said-clause-condition
 returns-in-Ok-said-clause-condition g c =
-    by_cases c.args.engine.now.context (map atom_of c.args.atoms.now) (tree c.args.store.now c.args.id) c.requires.normal c.cases.new.store c.in-Ok.case_tree c.in-Ok.ensures.cases c.args.engine.now.limits.nodes c.in-Ok.ensures.direct
-    (tree c.said.new.store c.in-Ok-said.id) c.in-Ok-said.ensures.said c.in-Ok-said.ensures.small
+    let k = context_of c.args.engine.now.context in
+    let ks = map atom_of c.args.atoms.now in
+    let limit = c.args.engine.now.limits.nodes in
+    let f = tree c.args.store.now c.args.id in
+    let t = tree c.said.new.store c.in-Ok-said.id in
+    let said =
+    by_cases c.args.engine.now.context ks f c.requires.normal c.cases.new.store c.in-Ok.case_tree c.in-Ok.ensures.cases limit c.in-Ok.ensures.direct t c.in-Ok-said.ensures.said c.in-Ok-said.ensures.small in
+    shortened_result k ks limit f t c.shortened.new.store c.shortened.result said c.shortened.ensures.shortened c.shortened.ensures.constant
+
+pub returns-in-Ok-said-clause-fault : goal.returns-in-Ok-said-clause-fault
+returns-in-Ok-said-clause-fault g c =
+    let k = context_of c.args.engine.now.context in
+    let limit = c.args.engine.now.limits.nodes in
+    let f = tree c.args.store.now c.args.id in
+    err_map c.shortened.result (λ e m. subst (ConditionFault k limit f) (sym m) (memory_fault k limit f)) c.shortened.ensures.memory
 
 pub returns-in-Ok-said-clause-kept : goal.returns-in-Ok-said-clause-kept
-returns-in-Ok-said-clause-kept g c = keeps_then c.args.store.now c.cases.new.store c.said.new.store c.cases.ensures.kept c.said.ensures.kept
+returns-in-Ok-said-clause-kept g c =
+    keeps_then c.args.store.now c.said.new.store c.shortened.new.store (keeps_then c.args.store.now c.cases.new.store c.said.new.store c.cases.ensures.kept c.said.ensures.kept) c.shortened.ensures.kept
 
 pub returns : goal.returns
 returns g c = record {
