@@ -1,3 +1,0 @@
-pub mod PlainFormulas
-pub mod Takings
-pub mod FirstNames
