@@ -9,6 +9,12 @@ use crate::error::RoundError;
 /// microseconds, and a node at a point 100 to 200 nanoseconds.
 const SHARED_FROM: u64 = 2_000;
 
+/// How many nodes one elimination may make: some ten seconds.
+const ENGINE_NODES: u128 = 20_000_000;
+
+/// How many formulas one elimination may add to a store before it goes on one point at a time: some 512 MB.
+const MOST_FORMULAS: usize = 2_000_000;
+
 /// What the search for certificates may do in one elimination, in entries of its tables that are changed: some ten seconds.
 const SEARCH_EFFORT: u64 = 1_000_000_000;
 
@@ -32,11 +38,13 @@ const QUESTION_EFFORT: u64 = 10_000_000;
 
 /// The nodes that may still be made, the step that comes next, what the search for certificates may still do, and the nodes that
 /// questions may still make. A step at so many points costs as many times the nodes of its branch and two more, before the first is
-/// put in.
+/// put in. Once an elimination has added so many formulas to the store, it takes only steps at one point.
 #[derive(Clone, Copy, Debug, PartialEq, Eq)]
 pub struct Budget {
     pub nodes: u128,
     next: Next,
+    /// With how many formulas in the store only steps at one point are taken; it is set by the first step.
+    full: Option<usize>,
     pub(crate) effort: u64,
     questions: u128,
     large_questions: u8,
@@ -50,14 +58,15 @@ enum Next {
 }
 
 impl Budget {
-    /// That of an elimination under a limit of nodes: twice the limit and eight. So one point can be put into each formula within the
-    /// limit.
+    /// That of an elimination under a limit of nodes: the engine's own, and at least twice the limit and eight. So one point can be
+    /// put into each formula within the limit.
     pub fn of_limit(limit: u64) -> Budget
-        ensures { result.nodes ≡ 2 * limit + 8 }
+        ensures { 2 * limit + 8 ≤ result.nodes }
     {
         Budget {
-            nodes: 2 * limit as u128 + 8,
+            nodes: ENGINE_NODES.max(2 * limit as u128 + 8),
             next: Next::First,
+            full: None,
             effort: SEARCH_EFFORT,
             questions: QUESTIONS,
             large_questions: LARGE_QUESTIONS,
@@ -90,6 +99,7 @@ impl Budget {
         Budget {
             nodes,
             next: Next::Later,
+            full: self.full,
             effort: self.effort.min(QUESTION_EFFORT),
             questions: 0,
             large_questions: 0,
@@ -119,12 +129,32 @@ impl Budget {
         &mut self.effort
     }
 
-    /// At how many points a branch of so many nodes can be worked on, at most; 2^64 - 1 stands for more.
-    pub(crate) fn most(&self, nodes: u64) -> u64
-        ensures { result ≡ min (self.now.nodes / (nodes + 2)) (2 ^ 64 - 1) }
+    /// Notes at the first step of an elimination how many formulas the store has.
+    pub(crate) fn begin(&mut self, formulas: usize)
+        ensures { self.new.nodes ≡ self.old.nodes }
     {
-        let most = self.nodes / (nodes as u128 + 2);
-        most.min(u64::MAX as u128) as u64
+        if self.full.is_none() {
+            self.full = Some(formulas.saturating_add(MOST_FORMULAS));
+        }
+    }
+
+    /// At how many points a branch of so many nodes can be worked on, at most, beside so many formulas in the store. One point
+    /// is stopped by the nodes alone.
+    pub(crate) fn most(&self, nodes: u64, formulas: usize) -> u64
+        ensures paid { result ≤ self.now.nodes / (nodes + 2) }
+        ensures one { nodes + 2 ≤ self.now.nodes → 1 ≤ result }
+    {
+        let paid = self.nodes / (nodes as u128 + 2);
+        let room = self.room(formulas) / (nodes.min(formulas as u64) + 2);
+        paid.min(room.max(1) as u128) as u64
+    }
+
+    // How many formulas can be added to a store that has so many, before it is full.
+    fn room(&self, formulas: usize) -> u64 {
+        match self.full {
+            Some(full) => full.saturating_sub(formulas) as u64,
+            None => MOST_FORMULAS as u64,
+        }
     }
 
     /// By how many of the threads the next step is worked on, at so many points on a branch of so many nodes: by all of them where it
@@ -141,8 +171,8 @@ impl Budget {
         if shared { workers } else { 1 }
     }
 
-    /// Takes off what a step at so many points costs on a branch of so many nodes. Its only error is `Nodes`, exactly where that is
-    /// more than there is, and then nothing is taken off.
+    /// Takes off what a step at so many points costs on a branch of so many nodes. Its only error is `Nodes`, where that is more than
+    /// there is, and then nothing is taken off.
     pub(crate) fn pay(&mut self, points: usize, nodes: u64) -> Result<(), RoundError>
         ensures paid { OnOk result (self.new.nodes + points * (nodes + 2) ≡ self.old.nodes) }
         ensures dear { OnErr result (self.old.nodes < points * (nodes + 2)) }

@@ -81,7 +81,8 @@ impl Work<'_> {
     {
         let formula = branch.formula();
         let nodes = store.facts(formula).nodes;
-        let most = budget.most(nodes);
+        budget.begin(store.len());
+        let most = budget.most(nodes, store.len());
         let choice = match chosen(
             self.alloc,
             store,
