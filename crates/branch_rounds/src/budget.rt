@@ -10,10 +10,13 @@ use crate::error::RoundError;
 const SHARED_FROM: u64 = 2_000;
 
 /// How many nodes one elimination may make: some ten seconds.
-const ENGINE_NODES: u128 = 20_000_000;
+const ENGINE_NODES: u128 = 10_000_000;
 
-/// How many formulas one elimination may add to a store before it goes on one point at a time: some 512 MB.
-const MOST_FORMULAS: usize = 2_000_000;
+/// How many formulas one elimination may add to a store before it takes steps at one point alone: some 512 MB, at up to 860 bytes.
+const MOST_FORMULAS: usize = 600_000;
+
+/// Of so many nodes that a step makes, one at most is counted as a new formula: the others are there before, or small.
+const NODES_OF_FORMULA: u128 = 4;
 
 /// What the search for certificates may do in one elimination, in entries of its tables that are changed: some ten seconds.
 const SEARCH_EFFORT: u64 = 1_000_000_000;
@@ -145,15 +148,16 @@ impl Budget {
         ensures one { nodes + 2 ≤ self.now.nodes → 1 ≤ result }
     {
         let paid = self.nodes / (nodes as u128 + 2);
-        let room = self.room(formulas) / (nodes.min(formulas as u64) + 2);
-        paid.min(room.max(1) as u128) as u64
+        let distinct = nodes.min(formulas as u64) as u128;
+        let room = self.room(formulas) as u128 * NODES_OF_FORMULA / (distinct + 2);
+        paid.min(room.max(1)).min(u64::MAX as u128) as u64
     }
 
     // How many formulas can be added to a store that has so many, before it is full.
-    fn room(&self, formulas: usize) -> u64 {
+    fn room(&self, formulas: usize) -> usize {
         match self.full {
-            Some(full) => full.saturating_sub(formulas) as u64,
-            None => MOST_FORMULAS as u64,
+            Some(full) => full.saturating_sub(formulas),
+            None => MOST_FORMULAS,
         }
     }
 

@@ -2,6 +2,7 @@
 use Rattle.std.proofs.Common.{◌≡◌, ℕ, ◌≤◌, ◌+◌, ◌*◌, List, [], ◌∷◌, length, map, refl, ap, sym, ◌∙◌, subst, arith}
 use Rattle.std.proofs.lemmas.List.{length-map}
 use Rattle.logic_meaning.specs.Answer.{Place}
+use Rattle.logic_meaning.specs.Context as meaning
 use Rattle.logic_meaning.specs.Context.{Fields}
 use Rattle.logic_meaning.specs.Every.{Every}
 use Rattle.logic_meaning.specs.Fold.{folded}
@@ -89,6 +90,12 @@ module _ (limit : ℕ) (f : Tree) (x : ℕ) (fs : Trees) (s : Place) (d : IsDire
         within = ap (all_within Fields y.number s) k ∙ ap (λ z. all_within Fields z s (folded (And fs))) i ∙ folded_within x s fs q.0 d.atoms q.2 d.within;
         paid = omega (arith, few, whole, less, same);
       }
+
+-- and so with more nodes left
+pub direct_with_more : (c : meaning.Context) (m n : ℕ) (f : Tree) (names : List VarId) (x : VarId) (s : Place) → m ≤ n → IsDirectAt c m f names x s → IsDirectAt c n f names x s
+direct_with_more c m n f names x s more d =
+    let paid = d.paid in
+    record { alone = d.alone; equation = d.equation; within = d.within; paid = omega (arith, more, paid) }
 
 -- one name alone
 pub record IsOneName (names : List VarId) (x : ℕ) : Type 0 where

@@ -1,4 +1,4 @@
-use Rattle.std.proofs.Common.{◌+◌, ◌*◌, List, map, ap, refl, sym, subst, ◌∙◌}
+use Rattle.std.proofs.Common.{◌≤◌, ◌+◌, ◌*◌, List, map, ap, refl, sym, subst, ◌∙◌}
 use Rattle.formula_laws.specs.StandsOnce.{StandsOnce}
 use Rattle.logic_meaning.specs.Every.{Every}
 use Rattle.logic_meaning.specs.Plain.{IsNegationNormal}
@@ -16,7 +16,7 @@ use Rattle.branch_rounds.specs.Branches.{AreBranchesOf, numbers}
 use Rattle.branch_rounds.specs.Rounds.{IsDirectAt}
 use Rattle.engine_answers.specs.declared.case_tree.CaseTree.{CaseTree}
 use Rattle.engine_answers.specs.Listed.{told_case}
-use Rattle.engine_answers.proofs.DirectTrees.{block_name, block_free, block_few, block_direct, block_tree}
+use Rattle.engine_answers.proofs.DirectTrees.{direct_with_more, block_name, block_free, block_few, block_direct, block_tree}
 use Rattle.engine_answers.specs.InnerBlocksBlocks.{IsUnder}
 use Rattle.engine_answers.proofs.InnerBlocksChains.{case_matrix_form}
 use Rattle.engine_answers.proofs.Under.{is_under, under_lack}
@@ -108,9 +108,10 @@ returns-in-Err-block_branches-clause-direct g c x fs s e d =
     let free = block_free task f c.requires.normal x fs s e d one block is in
     let worked = c.in-Ok.ensures.plain (block_few task f c.requires.normal x fs s e d one block is) free in
     let at = block_direct task f c.requires.normal x fs s e d one block is two c.in-Ok.matrix worked in
-    let paid = ap (λ b. b.nodes) (c.matrix_worked.ensures.unpaid free) ∙ c.of_limit-budget.ensures in
+    let same = ap (λ b. b.nodes) (c.matrix_worked.ensures.unpaid free) in
+    let enough = subst (λ n. 2 * task.limits.nodes + 8 ≤ n) (sym same) c.of_limit-budget.ensures in
     c.in-Err-block_branches.ensures.direct (block_name task f c.requires.normal x fs s e d one block is) s
-    (subst (λ n. IsDirectAt (context_of task.context) n (tree two c.in-Ok.matrix) c.deref-3.result.now (block_name task f c.requires.normal x fs s e d one block is) s) (sym paid)
+    (direct_with_more (context_of task.context) (2 * task.limits.nodes + 8) c.matrix_worked.new.budget.nodes (tree two c.in-Ok.matrix) c.deref-3.result.now (block_name task f c.requires.normal x fs s e d one block is) s enough
     (subst (λ (names : List VarId). IsDirectAt (context_of task.context) (2 * task.limits.nodes + 8) (tree two c.in-Ok.matrix) names (block_name task f c.requires.normal x fs s e d one block is) s) (sym c.deref-3.ensures.value) at))
 
 pub returns-clause-direct : goal.returns-clause-direct
@@ -125,9 +126,10 @@ returns-clause-direct g c x fs s e d =
     let free = block_free task f c.requires.normal x fs s e d one block is in
     let worked = c.in-Ok.ensures.plain (block_few task f c.requires.normal x fs s e d one block is) free in
     let at = block_direct task f c.requires.normal x fs s e d one block is two c.in-Ok.matrix worked in
-    let paid = ap (λ b. b.nodes) (c.matrix_worked.ensures.unpaid free) ∙ c.of_limit-budget.ensures in
+    let same = ap (λ b. b.nodes) (c.matrix_worked.ensures.unpaid free) in
+    let enough = subst (λ n. 2 * task.limits.nodes + 8 ≤ n) (sym same) c.of_limit-budget.ensures in
     let left = c.in-Ok-block_branches.ensures.direct (block_name task f c.requires.normal x fs s e d one block is) s
-    (subst (λ n. IsDirectAt (context_of task.context) n (tree two c.in-Ok.matrix) c.deref-3.result.now (block_name task f c.requires.normal x fs s e d one block is) s) (sym paid)
+    (direct_with_more (context_of task.context) (2 * task.limits.nodes + 8) c.matrix_worked.new.budget.nodes (tree two c.in-Ok.matrix) c.deref-3.result.now (block_name task f c.requires.normal x fs s e d one block is) s enough
     (subst (λ (names : List VarId). IsDirectAt (context_of task.context) (2 * task.limits.nodes + 8) (tree two c.in-Ok.matrix) names (block_name task f c.requires.normal x fs s e d one block is) s) (sym c.deref-3.ensures.value) at)) in
     block_tree task f c.requires.normal x fs s e d one block is two c.in-Ok.matrix worked nodes c.in-Ok-block_branches.branches.items c.case_tree.result left
     (ap (λ (t : CaseTree). map told_case t.cases.items) c.case_tree.ensures ∙ c.in_ok-cases.ensures)
