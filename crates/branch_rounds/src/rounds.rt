@@ -81,8 +81,9 @@ impl Work<'_> {
     {
         let formula = branch.formula();
         let nodes = store.facts(formula).nodes;
-        budget.begin(store.len());
-        let most = budget.most(nodes, store.len());
+        let formulas = store.len();
+        budget.begin(formulas);
+        let most = budget.most(nodes, formulas);
         let choice = match chosen(
             self.alloc,
             store,

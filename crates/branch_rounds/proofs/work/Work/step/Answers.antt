@@ -83,8 +83,9 @@ returns-in-Err-pay-clause-direct g c x s d =
     let counted = c.facts-nodes.ensures.facts.nodes_are in
     let cheap : c.facts-nodes.result.nodes ≤ nodes f = omega (arith, same, counted) in
     let paid = d.paid in
-    let dear : c.args.budget.now.nodes < 1 * (c.facts-nodes.result.nodes + 2) = subst (λ n. c.args.budget.now.nodes < n * (c.facts-nodes.result.nodes + 2)) point c.in-Err-pay.ensures.dear in
-    absurd (omega (arith, cheap, paid, dear))
+    let begun : c.begin.new.self.nodes ≡ c.args.budget.now.nodes = c.begin.ensures in
+    let dear : c.begin.new.self.nodes < 1 * (c.facts-nodes.result.nodes + 2) = subst (λ n. c.begin.new.self.nodes < n * (c.facts-nodes.result.nodes + 2)) point c.in-Err-pay.ensures.dear in
+    absurd (omega (arith, cheap, begun, paid, dear))
 
 pub returns-in-Err-children-clause-direct : goal.returns-in-Err-children-clause-direct
 returns-in-Err-children-clause-direct g c x s d =

@@ -1,2 +1,0 @@
-rlset pasf$
-rlqe ex({x0,x1,x10,x11,x12,x13,x14,x15,x16,x2,x3,x4,x5,x6,x7,x8,x9},(x0 = 0 and (x1 = x0+1 or x1 = 0) and (x2 = x1+1 or x2 = 0) and (x3 = x2+1 or x3 = 0) and (x4 = x3+1 or x4 = 0) and (x5 = x4+1 or x5 = 0) and (x6 = x5+1 or x6 = 0) and (x7 = x6+1 or x7 = 0) and (x8 = x7+1 or x8 = 0) and (x9 = x8+1 or x9 = 0) and (x10 = x9+1 or x10 = 0) and (x11 = x10+1 or x11 = 0) and (x12 = x11+1 or x12 = 0) and (x13 = x12+1 or x13 = 0) and (x14 = x13+1 or x14 = 0) and (x15 = x14+1 or x15 = 0) and (x16 = x15+1 or x16 = 0) and x16 = 17));

@@ -1,0 +1,2 @@
+rlset pasf$
+rlqe ex({x0,x1,x10,x11,x12,x13,x14,x15,x16,x2,x3,x4,x5,x6,x7,x8,x9},(x0 = 0 and (x1 = x0 or x1 = x0+1) and (x2 = x1 or x2 = x1+1) and (x3 = x2 or x3 = x2+1) and (x4 = x3 or x4 = x3+1) and (x5 = x4 or x5 = x4+1) and (x6 = x5 or x6 = x5+1) and (x7 = x6 or x7 = x6+1) and (x8 = x7 or x8 = x7+1) and (x9 = x8 or x9 = x8+1) and (x10 = x9 or x10 = x9+1) and (x11 = x10 or x11 = x10+1) and (x12 = x11 or x12 = x11+1) and (x13 = x12 or x13 = x12+1) and (x14 = x13 or x14 = x13+1) and (x15 = x14 or x15 = x14+1) and (x16 = x15 or x16 = x15+1) and x16 = 8));
