@@ -1,6 +1,6 @@
 //! The sample of a formula at a point, by cases.
 
-ghost use Rattle.std.specs.Prelude.{◌≡◌, ◌≤◌, ◌<ℤ◌, ℕ, pos, map, IfOk, IfErr, MatchOption};
+ghost use Rattle.std.specs.Prelude.{◌≡◌, ◌≤◌, ◌<ℤ◌, ℕ, pos, map, IfOk, IfErr, MatchOption, []};
 ghost use Rattle.logic_meaning.specs.Every.{Every};
 ghost use Rattle.logic_meaning.specs.Point.{Of};
 ghost use Rattle.logic_meaning.specs.Some.{Among};
@@ -14,8 +14,10 @@ ghost use Rattle.logic_meaning.specs.ReferenceSample.{reference_sample};
 ghost use Rattle.sample_reference.specs.TrueSample.{IsTrueSample};
 ghost use Rattle.sample_reference.specs.Seen.{sample_of, values_of};
 ghost use Rattle.logic_meaning.specs.Values.{value_names};
+ghost use Rattle.engine_answers.specs.CaseTrees.{IsCaseTreeOf};
 ghost use Rattle.engine_answers.specs.Samples.{AreInOrder, IsValueAmong};
 
+use crate::case_tree::CaseTree;
 use crate::engine::Engine;
 use crate::error::SampleError;
 use crate::reference_samples::plain_sample;
@@ -52,7 +54,34 @@ impl<R: Threads + Sync, G: Gate + Sync> Engine<'_, R, G> {
         ensures stops { IfErr result (λ e. StopsWith e (reference_sample (context_of self.now.context) self.now.limits.nodes (point_of at.now) (tree store.old id))) }
         ensures kept { Keeps (IsId store.old) (tree store.old) (IsId store.new) (tree store.new) }
     {
-        match self.found(store, id, at) {
+        match self.cases(store, id, &[]) {
+            Ok(cases) => self.sample_in(store, id, &cases, at),
+            Err(Measured::Memory) => Err(Measured::Memory),
+            Err(Measured::Overflow | Measured::Nodes) => {
+                let (alloc, context, limit) = (self.alloc, self.context, self.limits.nodes);
+                plain_sample(alloc, store, context, id, at, limit)
+            }
+        }
+    }
+
+    /// The sample as `sample` gives it, where the cases of the formula are at hand.
+    pub(crate) fn sample_in(
+        &self,
+        store: &mut Store,
+        id: FormulaId,
+        cases: &CaseTree,
+        at: &Values,
+    ) -> Result<Option<Vec<(VarId, Fraction)>>, Measured>
+        requires id { IsId store.old id }
+        requires normal { Every (IsNormal (context_of self.now.context)) (tree store.old id) }
+        requires cases { IsCaseTreeOf (context_of self.now.context) [] (tree store.old id) store.old cases.now }
+        requires positive { pos 0 <ℤ at.now.denominator }
+        requires point { Of (context_of self.now.context) (point_of at.now) }
+        ensures truth { IfOk result (λ o. IsTrueSample (context_of self.now.context) (tree store.old id) (point_of at.now) (sample_of o)) }
+        ensures stops { IfErr result (λ e. StopsWith e (reference_sample (context_of self.now.context) self.now.limits.nodes (point_of at.now) (tree store.old id))) }
+        ensures kept { Keeps (IsId store.old) (tree store.old) (IsId store.new) (tree store.new) }
+    {
+        match self.found(store, id, cases, at) {
             Ok(sample) => Ok(sample),
             Err(Measured::Memory) => Err(Measured::Memory),
             Err(Measured::Overflow | Measured::Nodes) => {
@@ -67,20 +96,17 @@ impl<R: Threads + Sync, G: Gate + Sync> Engine<'_, R, G> {
         &self,
         store: &mut Store,
         id: FormulaId,
+        cases: &CaseTree,
         at: &Values,
     ) -> Result<Option<Vec<(VarId, Fraction)>>, Measured>
         requires id { IsId store.old id }
         requires normal { Every (IsNormal (context_of self.now.context)) (tree store.old id) }
-        requires workers { 1 ≤ self.now.limits.workers }
+        requires cases { IsCaseTreeOf (context_of self.now.context) [] (tree store.old id) store.old cases.now }
         requires positive { pos 0 <ℤ at.now.denominator }
         requires point { Of (context_of self.now.context) (point_of at.now) }
         ensures truth { IfOk result (λ o. IsTrueSample (context_of self.now.context) (tree store.old id) (point_of at.now) (sample_of o)) }
         ensures kept { Keeps (IsId store.old) (tree store.old) (IsId store.new) (tree store.new) }
     {
-        let cases = match self.cases(store, id, &[]) {
-            Ok(cases) => cases,
-            Err(error) => return Err(error),
-        };
         let case = match true_case(store, &cases.cases, at) {
             Ok(Some(case)) => case,
             Ok(None) => return Ok(None),

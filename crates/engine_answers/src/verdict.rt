@@ -10,7 +10,7 @@ ghost use Rattle.formula_store.specs.Nodes.{tree, IsId};
 ghost use Rattle.sample_reference.specs.Leading.{under_names};
 ghost use Rattle.engine_answers.specs.Decided.{Decides};
 
-use crate::cases::told;
+use crate::cases::some_true;
 use crate::engine::Engine;
 use exact_numbers::Fraction;
 use formula_store::{FormulaId, Store};
@@ -53,21 +53,29 @@ pub fn decided<R: Threads + Sync, G: Gate + Sync>(
     ensures verdict { IfOk result (λ v. (body : Tree) → tree store.old id ≡ under_names 0 count body → Decides (context_of engine.now.context) engine.now.limits.nodes count body v) }
     ensures kept { Keeps (IsId store.old) (tree store.old) (IsId store.new) (tree store.new) }
 {
+    let cases = match engine.cases(store, id, &[]) {
+        Ok(cases) => cases,
+        Err(Measured::Overflow | Measured::Nodes) => return Ok(Verdict::Unknown),
+        Err(Measured::Memory) => return Err(AllocError),
+    };
+    let is_true = some_true(store, &cases.cases) != cases.universal;
     if count == 0 {
-        return match told(engine, store, id)? {
-            Some(true) => Ok(Verdict::True(Vec::new(engine.alloc))),
-            Some(false) => Ok(Verdict::False),
-            None => Ok(Verdict::Unknown),
+        return if is_true {
+            Ok(Verdict::True(Vec::new(engine.alloc)))
+        } else {
+            Ok(Verdict::False)
         };
     }
-    match engine.sample(store, id, &Values::new(engine.alloc, 1)) {
+    match engine.sample_in(store, id, &cases, &Values::new(engine.alloc, 1)) {
         Ok(Some(values)) => Ok(Verdict::True(fractions_of(engine.alloc, &values[..count])?)),
         Ok(None) => Ok(Verdict::False),
-        Err(Measured::Overflow | Measured::Nodes) => match told(engine, store, id)? {
-            Some(true) => Ok(Verdict::TrueAlone),
-            Some(false) => Ok(Verdict::False),
-            None => Ok(Verdict::Unknown),
-        },
+        Err(Measured::Overflow | Measured::Nodes) => {
+            if is_true {
+                Ok(Verdict::TrueAlone)
+            } else {
+                Ok(Verdict::False)
+            }
+        }
         Err(Measured::Memory) => Err(AllocError),
     }
 }
