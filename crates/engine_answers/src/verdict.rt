@@ -60,11 +60,10 @@ pub fn decided<R: Threads + Sync, G: Gate + Sync>(
     };
     let is_true = some_true(store, &cases.cases) != cases.universal;
     if count == 0 {
-        return if is_true {
-            Ok(Verdict::True(Vec::new(engine.alloc)))
-        } else {
-            Ok(Verdict::False)
-        };
+        if is_true {
+            return Ok(Verdict::True(Vec::new(engine.alloc)));
+        }
+        return Ok(Verdict::False);
     }
     match engine.sample_in(store, id, &cases, &Values::new(engine.alloc, 1)) {
         Ok(Some(values)) => Ok(Verdict::True(fractions_of(engine.alloc, &values[..count])?)),

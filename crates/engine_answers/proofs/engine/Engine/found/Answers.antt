@@ -54,7 +54,7 @@ in_order-requires g c =
     λ y m.
     subst (λ (vs : List (VarId × Fraction)). Among (value_names (values_of vs)) y) (sym c.deref-3.ensures.value)
     (block_valued (context_of c.args.self.now.context) c.args.store.now (tree c.args.store.now c.args.id) (point_of c.args.at.now) c.requires.point c.args.cases.now c.requires.cases k
-    (subst (λ (xs : List Case). Among xs k) c.deref.ensures.value found.0) found.1 (values_of c.in-Ok-concrete.values.items) c.in-Ok-concrete.ensures.sample y
+    (subst (λ (xs : List Case). Among xs k) c.deref.ensures.value found.0) found.1 (values_of c.in-Ok.values.items) c.in-Ok.ensures.sample y
     (subst (λ (xs : List VarId). Among (map number_of xs) y) c.deref-2.ensures.value m))
 
 pub returns-in-Ok-in_order-clause-truth : goal.returns-in-Ok-in_order-clause-truth
@@ -63,6 +63,6 @@ returns-in-Ok-in_order-clause-truth g c =
     let found = match_some c.in-Ok-Some.field-0 _ _ c.in-Ok-Some.case c.in-Ok-Some.field-0-is c.in-Ok-Some.ensures in
     let ordered = values_of c.in-Ok-in_order.ordered.items in
     sample_given (context_of c.args.self.now.context) c.args.store.now (tree c.args.store.now c.args.id) (point_of c.args.at.now) c.requires.point c.args.cases.now c.requires.cases k
-    (subst (λ (xs : List Case). Among xs k) c.deref.ensures.value found.0) found.1 (values_of c.in-Ok-concrete.values.items) c.in-Ok-concrete.ensures.sample ordered
-    (subst (λ (xs : List VarId). AreInOrder (map number_of xs) (values_of c.in-Ok-concrete.values.items) ordered) c.deref-2.ensures.value
+    (subst (λ (xs : List Case). Among xs k) c.deref.ensures.value found.0) found.1 (values_of c.in-Ok.values.items) c.in-Ok.ensures.sample ordered
+    (subst (λ (xs : List VarId). AreInOrder (map number_of xs) (values_of c.in-Ok.values.items) ordered) c.deref-2.ensures.value
     (subst (λ (vs : List (VarId × Fraction)). AreInOrder (map number_of c.deref-2.result.now) (values_of vs) ordered) c.deref-3.ensures.value c.in-Ok-in_order.ensures))

@@ -1,7 +1,5 @@
-use Rattle.std.proofs.Common.{subst, sym}
-use Rattle.std.specs.Prelude.{IfOk, IfErr, []}
-use Rattle.logic_meaning.specs.Every.{Every}
-use Rattle.logic_meaning.specs.NormalForm.{IsNormal}
+use Rattle.std.proofs.Common.{subst}
+use Rattle.std.specs.Prelude.{IfOk, IfErr}
 use Rattle.normal_atoms.specs.Atoms.{context_of}
 use Rattle.logic_meaning.specs.Tree.{Tree}
 use Rattle.formula_store.proofs.Makes.{keeps_then}
@@ -10,14 +8,7 @@ use Rattle.reference_engine.specs.Told.{StopsWith}
 use Rattle.logic_meaning.specs.ReferenceSample.{reference_sample}
 use Rattle.sample_reference.specs.TrueSample.{IsTrueSample}
 use Rattle.sample_reference.specs.Seen.{sample_of}
-use Rattle.engine_answers.specs.CaseTrees.{IsCaseTreeOf}
 use Rattle.engine_answers.proofs.engine.Engine.sample.Goals as goal
-
-pub sample_in-requires-clause-normal : goal.sample_in-requires-clause-normal
-sample_in-requires-clause-normal g c = subst (Every (IsNormal (context_of c.args.self.now.context))) (sym (c.cases.ensures.kept.same c.args.id c.requires.id)) c.requires.normal
-
-pub sample_in-requires-clause-cases : goal.sample_in-requires-clause-cases
-sample_in-requires-clause-cases g c = subst (λ (f : Tree). IsCaseTreeOf (context_of c.args.self.now.context) [] f c.cases.new.store c.in-Ok.cases) (sym (c.cases.ensures.kept.same c.args.id c.requires.id)) c.in-Ok.ensures.cases
 
 pub returns-in-Ok : goal.returns-in-Ok
 returns-in-Ok g c =
