@@ -41,7 +41,7 @@ const QUESTION_EFFORT: u64 = 10_000_000;
 
 /// The nodes that may still be made, the step that comes next, what the search for certificates may still do, and the nodes that
 /// questions may still make. A step at so many points costs as many times the nodes of its branch and two more, before the first is
-/// put in. Once an elimination has added so many formulas to the store, it takes only steps at one point.
+/// put in. Once an elimination has added 600,000 formulas to the store, it takes only steps at one point.
 #[derive(Clone, Copy, Debug, PartialEq, Eq)]
 pub struct Budget {
     pub nodes: u128,
@@ -175,8 +175,8 @@ impl Budget {
         if shared { workers } else { 1 }
     }
 
-    /// Takes off what a step at so many points costs on a branch of so many nodes. Its only error is `Nodes`, where that is more than
-    /// there is, and then nothing is taken off.
+    /// Takes off what a step at so many points costs on a branch of so many nodes. Its only error is `Nodes`, exactly where that is
+    /// more than there is, and then nothing is taken off.
     pub(crate) fn pay(&mut self, points: usize, nodes: u64) -> Result<(), RoundError>
         ensures paid { OnOk result (self.new.nodes + points * (nodes + 2) ≡ self.old.nodes) }
         ensures dear { OnErr result (self.old.nodes < points * (nodes + 2)) }
