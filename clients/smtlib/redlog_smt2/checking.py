@@ -5,6 +5,7 @@ from dataclasses import dataclass, field
 from typing import Sequence
 
 from .evaluate import Evaluator, Model, Value
+from .instances import ROUNDS, Instances, has_bound_application
 from .program import Program, Verdict
 from .terms import BOOL, INT, REAL, Apply, Builder, Name, Term, TermError
 from .translate import CannotSay, Translator, sorts_of, uses_of
@@ -35,6 +36,8 @@ class Checker:
         wanted = self._builder.all(formulas)
         if wanted is self._builder.false:
             return Outcome(Verdict.UNSAT)
+        if has_bound_application(formulas):
+            return self._by_instances(formulas)
         try:
             outcome = self._asked(list(formulas))
             if outcome.verdict is Verdict.SAT and not self._is_right(outcome.model, formulas):
@@ -44,6 +47,21 @@ class Checker:
             return Outcome(Verdict.UNKNOWN, reason=str(error))
         except Undecided:
             return Outcome(Verdict.UNKNOWN, reason="the values could not be held against a quantifier")
+
+    def _by_instances(self, formulas: Sequence[Term]) -> Outcome:
+        """Functions stand under quantifiers: unsat where some of what these say cannot be true, and else unknown."""
+        instances = Instances(self._builder, formulas)
+        reason = "functions stand under quantifiers"
+        for _ in range(ROUNDS):
+            try:
+                parts = instances.simplified()
+                if self._builder.all(parts) is self._builder.false or self._asked(parts).verdict is Verdict.UNSAT:
+                    return Outcome(Verdict.UNSAT)
+            except CannotSay as error:
+                reason = str(error)
+            if not instances.round():
+                break
+        return Outcome(Verdict.UNKNOWN, reason=reason)
 
     def evaluator(self, model: Model) -> Evaluator:
         """Values at the model."""

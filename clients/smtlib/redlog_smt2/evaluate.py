@@ -5,6 +5,8 @@ from dataclasses import dataclass, field
 from fractions import Fraction
 from typing import Callable
 
+from .instances import inside
+from .rewrite import Rewriter
 from .terms import (
     BOOL, And, Apply, Builder, Choice, Compare, Divides, Floor, Name, Not, Or, Quantified, Quotient, Remainder, Same, Sum, Symbol, Term, TermError, Truth, holds,
     whole_quotient,
@@ -86,52 +88,13 @@ class Evaluator:
             return self._decide(self.filled(term))
         raise TermError("a term that is not understood")
 
-    # ---- values put in
-
     def filled(self, term: Term) -> Term:
-        """The term with the values of its free names in their places."""
-        return self._filled(term, {})
-
-    def _filled(self, term: Term, known: dict[Term, Term]) -> Term:
-        if term not in known:
-            known[term] = self._filled_itself(term, known)
-        return known[term]
-
-    def _filled_form(self, term: Term, known: dict[Term, Term]) -> Sum:
-        made = self._filled(term, known)
-        assert isinstance(made, Sum)
-        return made
-
-    def _filled_itself(self, term: Term, known: dict[Term, Term]) -> Term:
-        make = self._builder
-        if not term.bound and not isinstance(term, Quantified):
-            value = self.value(term)
-            return make.truth(value) if isinstance(value, bool) else make.number(value, term.sort)
-        if isinstance(term, Name):
-            return make.name(term.symbol, True)
-        if isinstance(term, Sum):
-            parts = [(self._filled_form(it, known), factor) for it, factor in term.items]
-            return make.total(term.sort, [*parts, (make.number(term.constant, term.sort), Fraction(1))])
-        if isinstance(term, Choice):
-            return make.choice(self._filled(term.condition, known), self._filled(term.yes, known), self._filled(term.no, known))
-        if isinstance(term, Quotient):
-            return make.quotient(self._filled_form(term.form, known), term.divisor)
-        if isinstance(term, Remainder):
-            return make.remainder(self._filled_form(term.form, known), term.divisor)
-        if isinstance(term, Floor):
-            return make.floor(self._filled_form(term.form, known))
-        if isinstance(term, Compare):
-            return make.compare(term.relation, self._filled_form(term.form, known))
-        if isinstance(term, Divides):
-            return make.divides(term.divisor, self._filled_form(term.form, known))
-        if isinstance(term, Not):
-            return make.negate(self._filled(term.part, known))
-        if isinstance(term, And):
-            return make.all([self._filled(it, known) for it in term.parts])
-        if isinstance(term, Or):
-            return make.any([self._filled(it, known) for it in term.parts])
-        if isinstance(term, Same):
-            return make.same(self._filled(term.left, known), self._filled(term.right, known))
-        if isinstance(term, Quantified):
-            return make.quantified(term.kind, term.symbols, self._filled(term.body, known))
-        raise TermError("a term that is not understood")
+        """The term with the values of its free names in their places. A function under a quantifier has no value."""
+        values: dict[Term, Term] = {}
+        for each in inside([term]):
+            if isinstance(each, Apply) and each.bound:
+                raise TermError("a function under a quantifier has no value here")
+            if isinstance(each, (Name, Apply)) and not each.bound:
+                value = self.value(each)
+                values[each] = self._builder.truth(value) if isinstance(value, bool) else self._builder.number(value, each.sort)
+        return Rewriter(self._builder, values).term(term)

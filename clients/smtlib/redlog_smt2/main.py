@@ -45,6 +45,9 @@ def answer(words: Sequence[str] | None) -> int:
                 break
     except ReadError as error:
         solver.unreadable(str(error))
+    except BrokenPipeError:
+        os.dup2(os.open(os.devnull, os.O_WRONLY), 1)
+        return 1
     return 1 if solver.had_errors else 0
 
 
