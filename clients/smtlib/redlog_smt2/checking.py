@@ -5,7 +5,7 @@ from dataclasses import dataclass, field
 from typing import Sequence
 
 from .evaluate import Evaluator, Model, Value
-from .instances import ROUNDS, Instances, has_bound_application
+from .instances import ROUNDS, Instances, is_beyond
 from .program import Program, Verdict
 from .terms import BOOL, INT, REAL, Apply, Builder, Name, Term, TermError
 from .translate import CannotSay, Translator, sorts_of, uses_of
@@ -36,7 +36,7 @@ class Checker:
         wanted = self._builder.all(formulas)
         if wanted is self._builder.false:
             return Outcome(Verdict.UNSAT)
-        if has_bound_application(formulas):
+        if is_beyond(formulas):
             return self._by_instances(formulas)
         try:
             outcome = self._asked(list(formulas))
@@ -49,9 +49,9 @@ class Checker:
             return Outcome(Verdict.UNKNOWN, reason="the values could not be held against a quantifier")
 
     def _by_instances(self, formulas: Sequence[Term]) -> Outcome:
-        """Functions stand under quantifiers: unsat where some of what these say cannot be true, and else unknown."""
+        """Functions or declared sorts stand under quantifiers: unsat where some of what these say cannot be true, and else unknown."""
         instances = Instances(self._builder, formulas)
-        reason = "functions stand under quantifiers"
+        reason = "functions or declared sorts stand under quantifiers"
         for _ in range(ROUNDS):
             try:
                 parts = instances.simplified()

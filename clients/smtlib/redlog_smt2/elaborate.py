@@ -85,7 +85,7 @@ class Elaborator:
             raise TermError(f"the sort {head} takes {len(arguments)} arguments")
         values = [self._sort(part, inside) for part in parts]
         if body is None:
-            return Sort(written(expression))
+            return Sort(f"({head} {' '.join(it.name for it in values)})" if values else head)
         return self._sort(body, dict(zip(arguments, values)))
 
     # ---- terms

@@ -5,7 +5,7 @@ from dataclasses import dataclass, field
 from fractions import Fraction
 from typing import Callable
 
-from .instances import inside
+from .instances import inside, is_beyond
 from .rewrite import Rewriter
 from .terms import (
     BOOL, And, Apply, Builder, Choice, Compare, Divides, Floor, Name, Not, Or, Quantified, Quotient, Remainder, Same, Sum, Symbol, Term, TermError, Truth, holds,
@@ -90,10 +90,10 @@ class Evaluator:
 
     def filled(self, term: Term) -> Term:
         """The term with the values of its free names in their places. A function under a quantifier has no value."""
+        if is_beyond([term]):
+            raise TermError("what stands under a quantifier has no value here")
         values: dict[Term, Term] = {}
         for each in inside([term]):
-            if isinstance(each, Apply) and each.bound:
-                raise TermError("a function under a quantifier has no value here")
             if isinstance(each, (Name, Apply)) and not each.bound:
                 value = self.value(each)
                 values[each] = self._builder.truth(value) if isinstance(value, bool) else self._builder.number(value, each.sort)

@@ -1,4 +1,4 @@
-"""Functions under quantifiers. What such an assertion says of the terms that are there is taken in its place: it follows from the assertion, so
+"""Functions under quantifiers, and quantifiers over declared sorts. What such an assertion says of the terms that are there is taken in its place: it follows from the assertion, so
 `unsat` is right, and `sat` is never said."""
 from __future__ import annotations
 
@@ -7,9 +7,10 @@ from itertools import product
 from typing import Iterator, Sequence
 
 from .rewrite import Rewriter, name_of
-from .terms import INT, And, Apply, Builder, Compare, Kind, Name, Not, Or, Quantified, Relation, Same, Sum, Symbol, Term
+from .terms import BOOL, INT, REAL, And, Apply, Builder, Compare, Kind, Name, Not, Or, Quantified, Relation, Same, Sum, Symbol, Term
 from .translate import parts_of
 
+SORTS = (BOOL, INT, REAL)
 ROUNDS = 4
 MOST = 1500
 
@@ -28,9 +29,11 @@ def inside(terms: Sequence[Term]) -> Iterator[Term]:
                 rest.append(part)
 
 
-def has_bound_application(terms: Sequence[Term]) -> bool:
-    """Whether a function is applied to a name that a quantifier binds."""
-    return any(isinstance(it, Apply) and it.bound for it in inside(terms))
+def is_beyond(terms: Sequence[Term]) -> bool:
+    """Whether a function is applied to a name that a quantifier binds, or a quantifier is over a declared sort, which may have few values."""
+    return any(
+        isinstance(it, Apply) and bool(it.bound) or isinstance(it, Quantified) and any(symbol.sort not in SORTS for symbol in it.symbols) for it in inside(terms)
+    )
 
 
 @dataclass
@@ -68,7 +71,7 @@ def filled(builder: Builder, term: Term, values: Values) -> Term:
 
 
 class Instances:
-    """The parts without functions under quantifiers, and more of them in each round."""
+    """The parts without these, and more of them in each round."""
 
     def __init__(self, builder: Builder, formulas: Sequence[Term]) -> None:
         self._builder = builder
@@ -80,7 +83,7 @@ class Instances:
 
     def _take(self, parts: Iterator[Term]) -> None:
         for part in list(parts):
-            if not has_bound_application([part]):
+            if not is_beyond([part]):
                 self.plain[part] = None
             else:
                 rule = self._rule(part)

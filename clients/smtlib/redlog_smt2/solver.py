@@ -201,11 +201,11 @@ class Solver:
         self._changed()
 
     def declare_sort(self, parts: Sequence[Expression]) -> None:
-        """Declares a sort without arguments."""
-        name = self._symbol(parts[0]) if parts else ""
-        if not name or len(parts) > 2 or parts[1:] not in ([], [Numeral("0")]):
-            raise CommandError("a sort with arguments is not understood")
-        self._add_sort(name, (), None)
+        """Declares a sort, with so many arguments."""
+        if len(parts) not in (1, 2):
+            raise CommandError("the command takes a symbol and a numeral")
+        count = self._count(parts[1:]) if parts[1:] else 0
+        self._add_sort(self._symbol(parts[0]), tuple(f"a{it}" for it in range(count)), None)
 
     def define_sort(self, parts: Sequence[Expression]) -> None:
         """Gives a sort another name."""

@@ -303,6 +303,8 @@ class Translator:
         return Written(f"((_ divisible {term.divisor}) {_sum([*parts, _numeral(int(constant))])})", 3 * len(items) + 4, 4)
 
     def _quantified(self, term: Quantified) -> Written:
+        if any(symbol.sort not in (BOOL, INT, REAL) for symbol in term.symbols):
+            raise CannotSay("a quantifier is over a declared sort")
         body = self._formula(term.body)
         names = [f"b{symbol.number}" for symbol in term.symbols]
         definitions = list[Written]()
