@@ -52,7 +52,6 @@ TOKEN = re.compile(
 )
 NUMBER = re.compile(r"(?:0|[1-9][0-9]*)(\.[0-9]+)?")
 PLAIN = re.compile(r"[A-Za-z~!@$%^&*_+=<>.?/-][A-Za-z0-9~!@$%^&*_+=<>.?/-]*")
-RESERVED = frozenset("! _ as BINARY DECIMAL exists HEXADECIMAL forall let match NUMERAL par STRING".split())
 # These may go on in the next piece of the text where they end with this piece.
 UNFINISHED = frozenset(["text", "keyword", "literal", "word"])
 
@@ -141,9 +140,7 @@ class Reader:
 
 def symbol_text(name: str) -> str:
     """The symbol as it is written, in bars where it has to be."""
-    if PLAIN.fullmatch(name) and name not in RESERVED:
-        return name
-    return f"|{name}|"
+    return name if PLAIN.fullmatch(name) else f"|{name}|"
 
 
 def string_text(text: str) -> str:
