@@ -4,11 +4,12 @@ from __future__ import annotations
 from dataclasses import dataclass, field
 from typing import Sequence
 
+from . import mixed
 from .evaluate import Evaluator, Model, Value
-from .instances import ROUNDS, Instances, is_beyond
-from .program import Program, Verdict
-from .terms import BOOL, INT, REAL, Apply, Builder, Name, Term, TermError
-from .translate import CannotSay, Translator, sorts_of, uses_of
+from .instances import ROUNDS, Instances, inside, is_beyond
+from .program import Program, Reply, Verdict
+from .terms import BOOL, INT, REAL, And, Apply, Builder, Name, Term, TermError
+from .translate import CannotSay, Script, Translator, sorts_of, uses_of
 
 
 @dataclass
@@ -82,17 +83,34 @@ class Checker:
             raise Undecided from error
 
     def _asked(self, formulas: list[Term]) -> Outcome:
+        """Asks without a look at the values. Parts with whole numbers, parts with real ones, and parts with both are questions by themselves."""
         sorts = sorts_of(uses_of(formulas))
-        if {INT, REAL} <= sorts:
-            raise CannotSay("whole and real numbers stand together")
-        script = Translator(self._builder, formulas, "LIA" if INT in sorts else "LRA").script()
-        reply = self._program.ask(script.text(), list(script.names.values()))
+        if not {INT, REAL} <= sorts:
+            return self._outcome(*self._plain(formulas, "LIA" if INT in sorts else "LRA"))
+        values: dict[Term, Value] = {}
+        unknown: Outcome | None = None
+        for logic, group in groups(formulas).items():
+            try:
+                script, reply = self._plain(group, logic) if logic else mixed.asked(self._builder, self._program, group)
+            except CannotSay as error:
+                unknown = Outcome(Verdict.UNKNOWN, reason=str(error))
+                continue
+            if reply.verdict is Verdict.UNSAT:
+                return Outcome(Verdict.UNSAT)
+            if reply.verdict is Verdict.UNKNOWN:
+                unknown = Outcome(Verdict.UNKNOWN, reason=reply.reason)
+            else:
+                values.update(values_of(script, reply))
+        return unknown or Outcome(Verdict.SAT, self._model(values))
+
+    def _plain(self, formulas: Sequence[Term], logic: str) -> tuple[Script, Reply]:
+        script = Translator(self._builder, formulas, logic).script()
+        return script, self._program.ask(script.text(), list(script.names.values()))
+
+    def _outcome(self, script: Script, reply: Reply) -> Outcome:
         if reply.verdict is not Verdict.SAT:
             return Outcome(reply.verdict, reason=reply.reason)
-        values: dict[Term, Value] = {
-            term: reply.values[name] > 0 if term.sort == BOOL else reply.values[name] for term, name in script.names.items()
-        }
-        return Outcome(Verdict.SAT, self._model(values))
+        return Outcome(Verdict.SAT, self._model(values_of(script, reply)))
 
     def _model(self, values: dict[Term, Value]) -> Model:
         """The model of the values of names and of applications."""
@@ -103,6 +121,35 @@ class Checker:
                 arguments = tuple(evaluator.value(it) for it in term.arguments)
                 model.tables.setdefault(term.symbol, {})[arguments] = value
         return model
+
+
+def values_of(script: Script, reply: Reply) -> dict[Term, Value]:
+    """The values of the names and applications of a script."""
+    return {term: reply.values[name] > 0 if term.sort == BOOL else reply.values[name] for term, name in script.names.items()}
+
+
+def groups(formulas: Sequence[Term]) -> dict[str, list[Term]]:
+    """What is asserted, in groups without common names and functions: with whole numbers (`LIA`), with real ones (`LRA`), and with both (an empty name)."""
+    parts = [part for formula in formulas for part in (formula.parts if isinstance(formula, And) else (formula,))]
+    leader: dict[object, object] = {}
+
+    def find(it: object) -> object:
+        while leader.setdefault(it, it) is not it:
+            it = leader[it]
+        return it
+
+    for part in parts:
+        for term in inside([part]):
+            if isinstance(term, (Name, Apply)) and not (isinstance(term, Name) and term.bound):
+                leader[find(term.symbol)] = find(part)
+    members: dict[object, list[Term]] = {}
+    for part in parts:
+        members.setdefault(find(part), []).append(part)
+    found: dict[str, list[Term]] = {}
+    for group in members.values():
+        sorts = sorts_of(uses_of(group))
+        found.setdefault("" if {INT, REAL} <= sorts else "LIA" if INT in sorts else "LRA", []).extend(group)
+    return found
 
 
 class KnownApplications(Evaluator):

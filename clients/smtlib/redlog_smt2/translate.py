@@ -107,7 +107,9 @@ def sorts_of(terms: dict[Term, int]) -> set[Sort]:
 class Translator:
     """Makes one script of formulas."""
 
-    def __init__(self, builder: Builder, formulas: Sequence[Term], logic: str) -> None:
+    def __init__(self, builder: Builder, formulas: Sequence[Term], logic: str, is_mixed: bool = False) -> None:
+        """`is_mixed` says that whole names stand among real ones, as numbers without a sort; `whole_names` tells which."""
+        self._is_mixed = is_mixed
         self._builder = builder
         self._formulas = formulas
         self._uses = uses_of(formulas)
@@ -129,6 +131,10 @@ class Translator:
             asserted.append(definition.text)
         assert not any(self._definitions.values())
         return Script(self._logic, dict(self._names), asserted, helpers)
+
+    def whole_names(self) -> list[str]:
+        """The names and helpers of the script that stand for whole numbers."""
+        return [name for term, name in [*self._names.items(), *((it, self._helpers[it]) for it in self._helpers if not it.bound)] if term.sort == INT]
 
     def _functions(self) -> Iterator[Term]:
         """That applications with equal arguments have equal values. Saying it may meet further applications."""
@@ -180,6 +186,8 @@ class Translator:
         """The number that stands for an `ite`, a quotient or a floor, or a formula."""
         if term in self._helpers:
             return self._helpers[term]
+        if self._is_mixed and term.bound and term.sort == INT:
+            raise CannotSay("a whole number under a quantifier over real ones")
         name = self._helpers[term] = self._new("h")
         self._definitions[self._owner(term.bound)].append((name, self._definition(term, name)))
         return name
@@ -296,6 +304,9 @@ class Translator:
         return Written(f"({word} {' '.join(it.text for it in parts)})", size, height)
 
     def _divides(self, term: Divides) -> Written:
+        if self._is_mixed:
+            quotient = self._builder.quotient(term.form, term.divisor)
+            return self._atom(Relation.EQUAL, self._builder.total(INT, [(term.form, Fraction(1)), (quotient, Fraction(-term.divisor))]))
         constant, items = self._items(term.form)
         if any(it.denominator != 1 for it in (constant, *(factor for _, factor in items))):
             raise CannotSay("divisibility of a fraction")
@@ -305,6 +316,8 @@ class Translator:
     def _quantified(self, term: Quantified) -> Written:
         if any(symbol.sort not in (BOOL, INT, REAL) for symbol in term.symbols):
             raise CannotSay("a quantifier is over a declared sort")
+        if self._is_mixed and any(symbol.sort == INT for symbol in term.symbols):
+            raise CannotSay("a quantifier is over whole numbers, beside real ones")
         body = self._formula(term.body)
         names = [f"b{symbol.number}" for symbol in term.symbols]
         definitions = list[Written]()
