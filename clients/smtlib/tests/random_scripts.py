@@ -28,11 +28,13 @@ class Making:
     logic: str
     numbers: list[str] = field(default_factory=list)
     formulas: list[str] = field(default_factory=list)
+    elements: list[str] = field(default_factory=list)
     functions: bool = False
+    mixed: bool = False
 
     @property
     def whole(self) -> bool:
-        return "I" in self.logic
+        return "I" in self.logic.replace("LIRA", "LI")
 
     @property
     def sort(self) -> str:
@@ -55,11 +57,13 @@ def number(making: Making, depth: int, names: list[str]) -> str:
         return random.choice(names) if names and random.random() < 0.75 else numeral(making, random.randint(-7, 7))
     kind = random.choice(["+", "+", "-", "*", "*", "ite", "special", "special", "let", "function"])
     inner = lambda: number(making, depth - 1, names)  # noqa: E731
-    if kind == "function" and making.functions and not making.quantifiers:
-        return f"(f {inner()})"
+    if kind == "function" and making.functions:
+        return random.choice([f"(f {inner()})", f"(w {element(making)})"])
     if kind == "ite":
         return f"(ite {formula(making, depth - 1, names, 0)} {inner()} {inner()})"
     if kind == "special":
+        if making.mixed and random.random() < 0.3:
+            return f"(to_int {real(making, depth - 1, names)})"
         if not making.whole:
             return f"(/ {inner()} {random.choice(['2.0', '3.0', '(- 4.0)'])})"
         return random.choice([f"(abs {inner()})", f"(div {inner()} {random.choice(['2', '3', '5', '(- 3)'])})", f"(mod {inner()} {random.choice(['2', '3', '4'])})"])
@@ -70,11 +74,30 @@ def number(making: Making, depth: int, names: list[str]) -> str:
     return f"({'-' if kind == '-' else '+'} {inner()} {inner()})"
 
 
+def element(making: Making) -> str:
+    """A random term of the declared sort."""
+    names = ["s0", "s1", *making.elements]
+    return random.choice([*names, *names, f"(h {random.choice(names)})", f"(h (h {random.choice(names)}))"])
+
+
+def real(making: Making, depth: int, names: list[str]) -> str:
+    """A random real term of a script that has whole numbers too."""
+    if depth <= 0 or random.random() < 0.3:
+        return random.choice(["r0", "r1", "0.5", "2.0", "(- 1.25)"])
+    inner = lambda: real(making, depth - 1, names)  # noqa: E731
+    return random.choice([f"(to_real {number(making, depth - 1, names)})", f"(+ {inner()} {inner()})", f"(* 2.5 {inner()})", f"(- {inner()})"])
+
+
 def atom(making: Making, depth: int, names: list[str]) -> str:
     """A random comparison, or a Bool name."""
     if making.formulas and random.random() < 0.3:
         return random.choice(making.formulas)
-    if making.functions and not making.quantifiers and random.random() < 0.15:
+    if making.mixed and random.random() < 0.4:
+        relation = random.choice(["=", "<", "<=", "distinct"])
+        return random.choice([f"(is_int {real(making, depth, names)})", f"({relation} {real(making, depth, names)} {real(making, depth, names)})"])
+    if making.functions and random.random() < 0.15:
+        return f"(= {element(making)} {element(making)})"
+    if making.functions and random.random() < 0.15:
         return f"(q {number(making, depth, names)} {formula(making, 0, names, 0)})"
     relation = random.choice(["=", "<", "<=", ">", ">=", "distinct"])
     return f"({relation} {' '.join(number(making, depth, names) for _ in range(random.choice([2, 2, 2, 3])))})"
@@ -89,6 +112,11 @@ def formula(making: Making, depth: int, names: list[str], quantifiers: int) -> s
     if kind in ("forall", "exists"):
         if not quantifiers:
             return atom(making, depth, names)
+        if making.functions and random.random() < 0.3:
+            making.elements.append("e")
+            inside = formula(making, depth - 1, names, quantifiers - 1)
+            making.elements.pop()
+            return f"({kind} ((e S)) {inside})"
         name = random.choice(["u", "v"])
         return f"({kind} (({name} {making.sort})) {formula(making, depth - 1, sorted({*names, name}), quantifiers - 1)})"
     if kind == "not":
@@ -102,15 +130,18 @@ def formula(making: Making, depth: int, names: list[str], quantifiers: int) -> s
 
 def script() -> tuple[Making, list[str]]:
     """A random script: its lines up to the questions about its last check."""
-    making = Making(random.choice(["QF_LIA", "QF_LRA", "LIA", "LRA", "QF_UFLIA", "QF_UFLRA"]))
-    making.functions = "UF" in making.logic
+    making = Making(random.choice(["QF_LIA", "QF_LRA", "LIA", "LRA", "QF_UFLIA", "QF_UFLRA", "UFLIA", "UFLRA", "QF_LIRA", "LIRA"]))
+    making.functions, making.mixed = "UF" in making.logic, "LIRA" in making.logic
     lines = [f"(set-logic {making.logic})"]
     making.numbers = [f"x{it}" for it in range(random.randint(1, 4))]
     making.formulas = [f"p{it}" for it in range(random.randint(0, 3))]
     lines += [f"(declare-fun {it} () {making.sort})" for it in making.numbers]
     lines += [f"(declare-const {it} Bool)" for it in making.formulas]
     if making.functions:
+        lines += ["(declare-sort S 0)", "(declare-const s0 S)", "(declare-const s1 S)", "(declare-fun h (S) S)", f"(declare-fun w (S) {making.sort})"]
         lines += [f"(declare-fun f ({making.sort}) {making.sort})", f"(declare-fun q ({making.sort} Bool) Bool)"]
+    if making.mixed:
+        lines += ["(declare-const r0 Real)", "(declare-const r1 Real)"]
     if random.random() < 0.4:
         lines.append(f"(define-fun g ((a {making.sort})) {making.sort} {number(making, 2, ['a', *making.numbers])})")
     has_function = lines[-1].startswith("(define-fun g")
