@@ -4,7 +4,6 @@ from __future__ import annotations
 from dataclasses import dataclass, field
 from typing import Sequence
 
-from . import mixed
 from .evaluate import Evaluator, Model, Value
 from .instances import ROUNDS, Instances, inside, is_beyond
 from .program import Program, Reply, Verdict
@@ -87,6 +86,9 @@ class Checker:
         sorts = sorts_of(uses_of(formulas))
         if not {INT, REAL} <= sorts:
             return self._outcome(*self._plain(formulas, "LIA" if INT in sorts else "LRA"))
+        # Imported here, since it costs the start of each process time and few scripts need it.
+        from . import mixed
+
         values: dict[Term, Value] = {}
         unknown: Outcome | None = None
         for logic, group in groups(formulas).items():

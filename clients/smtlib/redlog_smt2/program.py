@@ -8,7 +8,6 @@ import subprocess
 from dataclasses import dataclass
 from enum import Enum
 from fractions import Fraction
-from pathlib import Path
 from typing import Sequence
 
 VALUE = re.compile(r"\(([A-Za-z][A-Za-z0-9]*) (\d+|\(/ \d+ \d+\)|\(- (?:\d+|\(/ \d+ \d+\))\))\)")
@@ -36,8 +35,8 @@ def find_program() -> str:
     given = os.environ.get("REDLOG")
     if given:
         return given
-    built = Path(__file__).resolve().parents[3] / "bin" / "redlog"
-    return str(built) if built.exists() else shutil.which("redlog") or "redlog"
+    built = os.path.join(os.path.dirname(os.path.realpath(__file__)), "..", "..", "..", "bin", "redlog")
+    return built if os.path.exists(built) else shutil.which("redlog") or "redlog"
 
 
 def number_of(text: str) -> Fraction:
