@@ -169,7 +169,7 @@ class Elaborator:
             while isinstance(expression, list) and expression and expression[0] == "let":
                 if len(expression) != 3 or not isinstance(expression[1], list) or not expression[1]:
                     raise TermError("a let is not well formed")
-                values = [(name, self.term(value)) for name, value in map(self._pair, expression[1])]
+                values: list[tuple[str, Meaning]] = [(name, self.term(value)) for name, value in map(self._pair, expression[1])]
                 if len({name for name, _ in values}) != len(values):
                     raise TermError("a let binds a name twice")
                 self.names.hide(values)
@@ -177,8 +177,8 @@ class Elaborator:
                 expression = expression[2]
             return self.term(expression)
         finally:
-            for values in reversed(begun):
-                self.names.show(values)
+            for each in reversed(begun):
+                self.names.show(each)
 
     @staticmethod
     def _pair(expression: Expression) -> tuple[str, Expression]:

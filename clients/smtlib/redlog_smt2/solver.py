@@ -2,14 +2,13 @@
 from __future__ import annotations
 
 from dataclasses import dataclass, field
-from fractions import Fraction
 from typing import Callable, Sequence, TextIO
 
 from . import VERSION
 from .checking import Checker, Outcome, Undecided
-from .elaborate import OPERATIONS, Definition, Elaborator, Meaning, Names
+from .elaborate import Definition, Elaborator, Meaning, Names
 from .evaluate import Model, Value, default
-from .expressions import Expression, Keyword, Numeral, ReadError, Symbol as Word, Text, string_text, symbol_text, written
+from .expressions import Expression, Keyword, Numeral, Symbol as Word, Text, string_text, symbol_text, written
 from .program import Program, Verdict
 from .terms import BOOL, INT, REAL, Builder, Sort, Symbol, Term, TermError
 
@@ -321,8 +320,7 @@ class Solver:
         return self._checked
 
     def _checked_with_model(self) -> Checked:
-        if not self._is_on(":produce-models"):
-            pass  # Values are there in any case, and many tools ask without the option.
+        # Values are there whatever :produce-models says, since many tools ask without it.
         return self._checked_as(Verdict.SAT)
 
     # ---- questions

@@ -4,8 +4,6 @@ from __future__ import annotations
 from dataclasses import dataclass
 from enum import Enum
 from fractions import Fraction
-from functools import reduce
-from math import gcd, lcm
 from typing import Iterable, Mapping
 
 
@@ -298,9 +296,11 @@ class Builder:
 
     def _remainder_is(self, form: Sum) -> Term | None:
         """`mod` of a form by a number that is a number, said by divisibility."""
-        if len(form.items) != 1 or not isinstance(form.items[0][0], Remainder):
+        if len(form.items) != 1:
             return None
         remainder, factor = form.items[0]
+        if not isinstance(remainder, Remainder):
+            return None
         value = -form.constant / factor
         if value.denominator != 1 or not 0 <= value < remainder.divisor:
             return self.false
@@ -336,7 +336,7 @@ class Builder:
         for part in parts:
             if part is full:
                 return full
-            for each in part.parts if isinstance(part, kind) else (part,):
+            for each in part.parts if isinstance(part, (And, Or)) and isinstance(part, kind) else (part,):
                 if each is not empty:
                     found[each] = None
         if len(found) < 2:
@@ -380,12 +380,3 @@ def is_whole(form: Sum) -> bool:
     """Whether the form has whole values alone, as its parts show."""
     numbers = [form.constant, *(factor for _, factor in form.items)]
     return all(it.denominator == 1 for it in numbers) and all(term.sort == INT for term, _ in form.items)
-
-
-def whole_factors(form: Sum) -> tuple[int, list[tuple[Term, int]]]:
-    """The form times the least positive number that makes all its numbers whole, without a common divisor."""
-    numbers = [form.constant, *(factor for _, factor in form.items)]
-    times = reduce(lcm, (it.denominator for it in numbers), 1)
-    common = reduce(gcd, (int(it * times) for it in numbers), 0) or 1
-    scale = Fraction(times, common)
-    return int(form.constant * scale), [(term, int(factor * scale)) for term, factor in form.items]

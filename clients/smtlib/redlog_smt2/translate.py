@@ -13,7 +13,7 @@ from typing import Iterator, Sequence
 
 from .terms import (
     BOOL, INT, REAL, And, Apply, Bound, Builder, Choice, Compare, Divides, Floor, Kind, Name, Not, Or, Quantified, Quotient, Relation, Remainder, Same, Sort, Sum,
-    Symbol, Term, Truth, whole_factors,
+    Symbol, Term, Truth,
 )
 
 # A formula that stands in many places and is larger than this gets a name of its own, and so does one that is higher than HIGH.
@@ -180,7 +180,7 @@ class Translator:
     @staticmethod
     def _owner(bound: Bound) -> Symbol | None:
         """The innermost of the bound names; those of inner quantifiers are newer."""
-        return max(bound, key=lambda symbol: symbol.number, default=None)
+        return max(bound, key=lambda symbol: symbol.number) if bound else None
 
     def _helper(self, term: Term) -> str:
         """The number that stands for an `ite`, a quotient or a floor, or a formula."""
