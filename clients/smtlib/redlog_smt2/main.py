@@ -2,6 +2,7 @@
 from __future__ import annotations
 
 import argparse
+import io
 import os
 import sys
 import threading
@@ -55,7 +56,8 @@ def main(words: Sequence[str] | None = None) -> int:
     """Runs in a thread with a large stack, since terms may be deep."""
     sys.setrecursionlimit(1_000_000)
     sys.set_int_max_str_digits(0)
-    sys.stdout.reconfigure(encoding="latin-1")  # type: ignore[union-attr]
+    if isinstance(sys.stdout, io.TextIOWrapper):
+        sys.stdout.reconfigure(encoding="latin-1")
     threading.stack_size(STACK)
     status = [2]
     worker = threading.Thread(target=lambda: status.__setitem__(0, answer(words)), daemon=True)

@@ -440,7 +440,7 @@ class Solver:
     def get_option(self, parts: Sequence[Expression]) -> None:
         """The value of an option."""
         self._question_parts(parts, 1)
-        if parts[0] not in self._options:  # type: ignore[comparison-overlap]
+        if parts[0] not in self._options:
             raise Unsupported
         self.say(written(self._options[str(parts[0])]))
 
