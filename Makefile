@@ -15,7 +15,7 @@ VERSION ?= 0.1.0
 PAGES = $(wildcard docs/*.md)
 EXAMPLES = $(wildcard examples/*)
 # The clients' files but their tests, and the commands among them.
-CLIENTS = $(shell find clients -type f ! -path '*/__pycache__/*' ! -path '*/tests/*' ! -path 'clients/package/*' ! -name test ! -name testing.py | sort)
+CLIENTS = $(shell find clients -type f ! -path '*/__pycache__/*' ! -path '*/.*' ! -path '*/tests/*' ! -path 'clients/package/*' ! -name test ! -name testing.py | sort)
 COMMANDS = python/redlog-py smtlib/redlog-smt2 batch/redlog-batch
 PACKAGE = bin/redlog_$(VERSION)_amd64
 
