@@ -1,7 +1,7 @@
 # make look               answers crates/redlog/stdin, or SCRIPT=file, by the code without its proofs
 # make                    builds the proved program and leaves it at bin/redlog
 # make test               proves everything, and runs the tests and the edits that the proofs must refuse
-# make install PREFIX=..  copies the program, its manual page, its documents, its Vim files and the driver of why3 to PREFIX
+# make install PREFIX=..  copies the program, its manual page, its documents and examples, its Vim files and the clients to PREFIX
 # make uninstall          takes them away again
 # make deb                builds a package of these, which dpkg -i installs
 
@@ -9,8 +9,14 @@
 SCRIPT ?= crates/redlog/stdin
 
 PREFIX ?= /usr/local
+# What is installed as redlog; another one than this was not proved here.
+PROGRAM ?= bin/redlog
 VERSION ?= 0.1.0
 PAGES = $(wildcard docs/*.md)
+EXAMPLES = $(wildcard examples/*)
+# The clients' files but their tests, and the commands among them.
+CLIENTS = $(shell find clients -type f ! -path '*/__pycache__/*' ! -path '*/.*' ! -path '*/tests/*' ! -path 'clients/package/*' ! -name test ! -name testing.py | sort)
+COMMANDS = python/redlog-py smtlib/redlog-smt2 batch/redlog-batch
 PACKAGE = bin/redlog_$(VERSION)_amd64
 
 .PHONY: all look test install uninstall deb clean
@@ -32,25 +38,33 @@ look:
 test:
 	bash .ci/run
 
-install: bin/redlog
-	install -D -m 755 bin/redlog $(DESTDIR)$(PREFIX)/bin/redlog
+install: $(PROGRAM)
+	install -D -m 755 $(PROGRAM) $(DESTDIR)$(PREFIX)/bin/redlog
 	install -D -m 644 man/redlog.1 $(DESTDIR)$(PREFIX)/share/man/man1/redlog.1
-	install -d $(DESTDIR)$(PREFIX)/share/doc/redlog/docs
+	install -d $(DESTDIR)$(PREFIX)/share/doc/redlog/docs $(DESTDIR)$(PREFIX)/share/doc/redlog/examples
 	install -m 644 README.md $(DESTDIR)$(PREFIX)/share/doc/redlog
+	install -m 644 man/copyright $(DESTDIR)$(PREFIX)/share/doc/redlog
 	install -m 644 $(PAGES) $(DESTDIR)$(PREFIX)/share/doc/redlog/docs
+	install -m 644 $(EXAMPLES) $(DESTDIR)$(PREFIX)/share/doc/redlog/examples
 	install -D -m 644 editors/vim/syntax/redlog.vim $(DESTDIR)$(PREFIX)/share/vim/vimfiles/syntax/redlog.vim
 	install -D -m 644 editors/vim/ftdetect/redlog.vim $(DESTDIR)$(PREFIX)/share/vim/vimfiles/ftdetect/redlog.vim
 	install -D -m 644 clients/why3/redlog.drv $(DESTDIR)$(PREFIX)/share/redlog/why3/redlog.drv
 	install -D -m 755 clients/why3/redlog-why3 $(DESTDIR)$(PREFIX)/share/redlog/why3/redlog-why3
+	for file in $(CLIENTS); do \
+	  if [ -x $$file ]; then mode=755; else mode=644; fi; \
+	  install -D -m $$mode $$file $(DESTDIR)$(PREFIX)/share/redlog/$$file || exit 1; \
+	done
+	for file in $(COMMANDS); do ln -sf ../share/redlog/clients/$$file $(DESTDIR)$(PREFIX)/bin/$${file##*/} || exit 1; done
 
 uninstall:
 	rm -f $(DESTDIR)$(PREFIX)/bin/redlog $(DESTDIR)$(PREFIX)/share/man/man1/redlog.1
+	rm -f $(foreach file,$(COMMANDS),$(DESTDIR)$(PREFIX)/bin/$(notdir $(file)))
 	rm -rf $(DESTDIR)$(PREFIX)/share/doc/redlog $(DESTDIR)$(PREFIX)/share/redlog
 	rm -f $(DESTDIR)$(PREFIX)/share/vim/vimfiles/syntax/redlog.vim $(DESTDIR)$(PREFIX)/share/vim/vimfiles/ftdetect/redlog.vim
 
-deb: bin/redlog
+deb: $(PROGRAM)
 	rm -rf $(PACKAGE)
-	$(MAKE) install PREFIX=/usr DESTDIR=$(CURDIR)/$(PACKAGE)
+	$(MAKE) install PREFIX=/usr DESTDIR=$(abspath $(PACKAGE))
 	gzip -9n $(PACKAGE)/usr/share/man/man1/redlog.1
 	install -d $(PACKAGE)/DEBIAN
 	sed 's/@VERSION@/$(VERSION)/' man/control > $(PACKAGE)/DEBIAN/control

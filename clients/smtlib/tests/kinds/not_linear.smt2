@@ -1,0 +1,10 @@
+; what is asserted is not linear: redlog-smt2 says unknown as long as it stands, and goes on after it
+(set-logic QF_NRA)
+(declare-const x Real)
+(declare-const y Real)
+(push 1)
+(assert (> (* x y) 1.0))
+(check-sat)
+(pop 1)
+(assert (> x y))
+(check-sat)
