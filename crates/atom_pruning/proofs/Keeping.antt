@@ -10,30 +10,27 @@ use Rattle.atom_pruning.specs.Rows.{AreRows}
 use Rattle.atom_pruning.specs.Kept.{AllSay, AreEnough, AreImpossible, Imply}
 use Rattle.atom_pruning.specs.Asked.{Asked, negations, AreRefuted, AreEnoughFor, AreMarks}
 use Rattle.atom_pruning.proofs.Decided.{of_fields}
-use Rattle.atom_pruning.proofs.Said.{SaysAt, each_says, all_say, stable_at, marked_say, length_rows, row_fails, meets_marked}
+use Rattle.atom_pruning.specs.Keeping.{SaysAt, KeepBelow, KeepEnough, needed}
+use Rattle.atom_pruning.proofs.Said.{each_says, all_say, stable_at, marked_say, length_rows, row_fails, meets_marked}
 
 -- ---- atoms that are kept
-
--- the atoms with a mark and the assumptions imply all
-abbrev pub KeepEnough : List AtomRows → List AtomRows → List Bool → Type 0
-KeepEnough assumed atoms marks =
-    (c : Context) (ks us : List Atom) → AreRows c ks assumed → AreRows c us atoms → (p : Point ℕ) → Of c p → AllSay ks p
-    → ((k : ℕ) → k < length atoms → get_or marks k false ≡ true → SaysAt us k p)
-    → (k : ℕ) → k < length atoms → SaysAt us k p
-
--- the question whether atoms are needed
-abbrev pub needed : List AtomRows → List AtomRows → Asked
-needed assumed atoms = record { given = atoms; assumed = assumed; negated = atoms }
 
 set_twice : (marks : List Bool) (i : ℕ) (a b : Bool) → set (set marks i a) i b ≡ set marks i b
 set_twice [] i a b = refl
 set_twice (m ∷ marks) zero a b = refl
 set_twice (m ∷ marks) (suc i) a b = ap (λ (bs : List Bool). m ∷ bs) (set_twice marks i a b)
 
-module _ (assumed atoms : List AtomRows) where
-  pub all_kept : (marks : List Bool) → ((k : ℕ) → k < length atoms → get_or marks k false ≡ true) → KeepEnough assumed atoms marks
-  all_kept marks all c ks us known given p o say says k l = says k l (all k l)
+-- where each atom is kept
+pub all_kept : (c : Context) (ks us : List Atom) (atoms : List AtomRows) (marks : List Bool) → AreRows c us atoms → length marks ≡ length atoms → ((k : ℕ) → k < length atoms → get_or marks k false ≡ true)
+    → AreEnough c ks us marks
+all_kept c ks us atoms marks given one all =
+    let n = length_rows c us atoms given in
+    record {
+      one_each = one ∙ sym n;
+      enough = λ p o say h. all_say us p (λ k l. marked_say marks us p h k (all k (omega arith)));
+    }
 
+module _ (assumed atoms : List AtomRows) where
   -- where the marked atoms are kept and imply the others
   pub kept_marks : (marks bs : List Bool) → length bs ≡ length atoms → ((k : ℕ) → k < length atoms → get_or bs k false ≡ get_or marks k false) → KeepEnough assumed atoms marks
       → (c : Context) (ks us : List Atom) → AreRows c ks assumed → AreRows c us atoms → AreEnough c ks us bs
@@ -91,6 +88,39 @@ module _ (assumed atoms : List AtomRows) where
         → KeepEnough assumed atoms (set (set marks i false) i (not implied))
     goes_on true are enough h = subst (KeepEnough assumed atoms) (sym (set_twice marks i false false)) (left_out are enough (h refl))
     goes_on false are enough h = let m : i < length marks = let e = are.one_each in omega arith in subst (KeepEnough assumed atoms) (sym (set_twice marks i false true)) (stays m enough)
+
+-- ---- atoms that are taken in turn
+
+module _ (assumed atoms : List AtomRows) (marks : List Bool) where
+  pub first_kept : (n : ℕ) → n ≤ length atoms → ((k : ℕ) → k < n → get_or marks k false ≡ true) → KeepBelow assumed atoms marks n
+  first_kept n l all c ks us known given p o say says k m = says k (omega arith) (all k m)
+
+  module _ (i : ℕ) (within : i < length atoms) (before : KeepBelow assumed atoms marks i) where
+    -- one that the marked ones imply needs no mark
+    pub passed_over : AreMarks (needed assumed atoms) marks → AreEnoughFor (needed assumed atoms) marks i → KeepBelow assumed atoms marks (i + 1)
+    passed_over are implied c ks us known given p o say says k l =
+        ⊎_elim
+        (λ (m : k < i). before c ks us known given p o say says k m)
+        (λ (m : i ≤ k).
+        let s : i ≡ k = omega arith in
+        subst (λ j. SaysAt us j p) s (stable_at us i p (of_fields c p o) (λ f.
+        implied p (of_fields c p o) (meets_marked c p o (needed assumed atoms) ks us known given say marks says are.no_negation) (row_fails c p o us atoms given i f))))
+        (cases_lt k i)
+
+    -- and another gets one
+    pub takes_one : i < length marks → KeepBelow assumed atoms (set marks i true) (i + 1)
+    takes_one room c ks us known given p o say says k l =
+        ⊎_elim
+        (λ (m : k < i). before c ks us known given p o say (λ j n e. still j n e) k m)
+        (λ (m : i ≤ k). let s : i ≡ k = omega arith in says k (omega arith) (ap (λ j. get_or (set marks i true) j false) (sym s) ∙ get_or-set_same marks i true false room))
+        (cases_lt k i)
+      where
+        still : (j : ℕ) → j < length atoms → get_or marks j false ≡ true → SaysAt us j p
+        still j n e =
+            ⊎_elim
+            (λ (s : j ≡ i). says j n (ap (λ h. get_or (set marks i true) h false) s ∙ get_or-set_same marks i true false room))
+            (λ (d : j ≢ i). says j n (get_or-set_other marks i j true false d ∙ e))
+            (cases_eq j i)
 
 -- ---- atoms that are implied
 

@@ -3,19 +3,14 @@ use Rattle.std.proofs.Common.{◌≡◌, ℕ, zero, suc, ◌+◌, ◌-◌, ◌<�
 use Rattle.std.proofs.lemmas.Bool.{cases_lt, false≢true}
 use Rattle.logic_meaning.specs.Context.{Context, Fields}
 use Rattle.logic_meaning.specs.Point.{Point, Of}
-use Rattle.logic_meaning.specs.Atom.{Atom, Says}
+use Rattle.logic_meaning.specs.Atom.{Atom}
 use Rattle.atom_pruning.specs.declared.rows.AtomRows.{AtomRows}
 use Rattle.atom_pruning.specs.Rows.{MeetsAny, AreRows}
 use Rattle.atom_pruning.specs.Kept.{AllSay, marked}
+use Rattle.atom_pruning.specs.Keeping.{SaysAt}
 use Rattle.atom_pruning.specs.Asked.{Asked, without_rows, negations, MeetsMarked}
 use Rattle.atom_pruning.proofs.Decided.{says_stable}
 use Rattle.atom_pruning.proofs.Places.{row_given, row_assumed}
-
--- the atom at a place is true at the point, if there is one
-abbrev pub SaysAt : List Atom → ℕ → Point ℕ → Type 0
-SaysAt [] k p = Unit {0}
-SaysAt (a ∷ us) zero p = Says a p
-SaysAt (a ∷ us) (suc k) p = SaysAt us k p
 
 pub each_says : (us : List Atom) (p : Point ℕ) → AllSay us p → (k : ℕ) → SaysAt us k p
 each_says [] p h k = tt

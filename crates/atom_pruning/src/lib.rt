@@ -18,7 +18,7 @@ mod table;
 pub use directions::Directions;
 pub use implied::are_implied;
 pub use outlook::may_be_pruned;
-pub use pruning::{Pruned, are_impossible, kept};
+pub use pruning::{Pruned, are_impossible, kept, kept_in_turn};
 pub use rows::AtomRows;
 pub use sample::Sample;
 pub use signs::may_be_decided;

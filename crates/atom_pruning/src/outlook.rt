@@ -49,6 +49,20 @@ impl Outlook {
         Ok(outlook)
     }
 
+    /// The same of those that are marked: the atoms stand first, then the assumptions. Its only error is want of memory.
+    pub(crate) fn of_marked(
+        alloc: Global,
+        assumed: &[AtomRows],
+        atoms: &[AtomRows],
+        marks: &[bool],
+    ) -> Result<Outlook, AllocError> {
+        let mut outlook = Outlook::with_room(alloc, assumed.len() + atoms.len())?;
+        for (rows, mark) in atoms.iter().chain(assumed).zip(marks) {
+            outlook.add(if *mark { Part::of_atom_row(rows) } else { None })?;
+        }
+        Ok(outlook)
+    }
+
     // The same for atoms in place of their rows.
     fn of_atoms(
         alloc: Global,
@@ -79,17 +93,31 @@ impl Outlook {
 
     // Adds a row, if there is one.
     fn add(&mut self, part: Option<Part>) -> Result<(), AllocError> {
-        if let Some(part) = part {
-            self.twice = self.twice.and(self.once.common(part.signs));
-            self.once = self.once.and(part.signs);
-            self.none_positive = self.none_positive && part.constant <= 0;
-        }
+        self.count(part);
         self.entries.push(Entry {
             part,
             left: false,
             before: Signs::NONE,
         })?;
         Ok(())
+    }
+
+    // Counts a row, if there is one, among all.
+    fn count(&mut self, part: Option<Part>) {
+        if let Some(part) = part {
+            self.twice = self.twice.and(self.once.common(part.signs));
+            self.once = self.once.and(part.signs);
+            self.none_positive = self.none_positive && part.constant <= 0;
+        }
+    }
+
+    /// Takes in the row of the atom at a place, which was not marked.
+    pub(crate) fn take(&mut self, place: usize, rows: &AtomRows) {
+        let part = Part::of_atom_row(rows);
+        self.count(part);
+        if let Some(entry) = self.entries.get_mut(place) {
+            entry.part = part;
+        }
     }
 
     /// A mark for each place, true where the others are known not to imply the atom. Its only error is want of memory.

@@ -49,6 +49,19 @@ impl<'a> Question<'a> {
         Ok(marks)
     }
 
+    // Marks for the rows of the first given atoms, so many, and of the assumptions.
+    pub(crate) fn first_marks(&self, first: usize) -> Result<Vec<bool>, AllocError>
+        ensures marks { IfOk result (λ v. AreMarks (asked_of self.now.rows) v.items) }
+        ensures marked { IfOk result (λ v. (k : ℕ) → k < first → k < length self.now.rows.given.now → slice_index_or v.items k false ≡ true) }
+    {
+        let given = self.rows.given.len();
+        let mut marks = vec![in self.alloc; true; first.min(given)]?;
+        marks.resize(given, false)?;
+        marks.resize(self.rows.negations(), true)?;
+        marks.resize(self.rows.len(), false)?;
+        Ok(marks)
+    }
+
     // Whether multipliers are found by which no point meets the marked rows. What the search does is taken off the effort.
     pub(crate) fn refutes(&self, marks: &[bool], effort: &mut u64) -> Result<bool, AllocError>
         ensures refuted { IfOk result (λ b. IsTrue b → AreRefuted (asked_of self.now.rows) marks.now) }

@@ -1,0 +1,9 @@
+pub mod Listing
+pub mod Cancelling
+pub mod Forms
+pub mod Steps
+pub mod Pairs
+pub mod Open
+pub mod PutAway
+pub mod Normal
+pub mod Finish
