@@ -1,0 +1,11 @@
+pub mod Euclid
+pub mod Moved
+pub mod Between
+pub mod Beyond
+pub mod Making
+pub mod Keeping
+pub mod Implying
+pub mod Gaps
+pub mod Equations
+pub mod Binding
+pub mod Casting
