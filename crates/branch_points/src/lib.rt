@@ -12,6 +12,7 @@ mod error;
 mod fields;
 mod roots;
 
+pub use absent::absent_names;
 pub use choice::Chosen;
 pub use choosing::chosen;
 pub use error::ChoiceError;

@@ -1,0 +1,3 @@
+pub mod Narrowing
+pub mod Conjunctions
+pub mod Settings
