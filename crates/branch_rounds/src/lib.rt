@@ -24,5 +24,6 @@ pub use branch_pruning::{Reach, pruned};
 pub use budget::Budget;
 pub use error::RoundError;
 pub use laws::branches_are_cases;
+pub use own_names::is_over;
 pub use virtual_subst::{SubstError, fold, result_shared};
 pub use work::Work;

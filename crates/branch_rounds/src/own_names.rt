@@ -10,7 +10,7 @@ use normal_atoms::Atom;
 use std::alloc::AllocError;
 
 /// Whether each name of the formula is one of these. Its only error is want of memory.
-pub(crate) fn is_over(store: &Store, id: FormulaId, names: &[VarId]) -> Result<bool, AllocError>
+pub fn is_over(store: &Store, id: FormulaId, names: &[VarId]) -> Result<bool, AllocError>
     requires { IsId store.now id }
 {
     let Ok(ids) = store.subformulas(id) else {

@@ -1,6 +1,7 @@
 -- A block over a formula that was worked on under the assumptions without its names, and its branches.
 use Rattle.std.proofs.Common.{◌≡◌, ℕ, Bool, true, false, List, [], ◌∷◌, map, refl, ap, sym, subst, ◌∙◌}
 use Rattle.logic_meaning.specs.Atom as meant
+use Rattle.logic_meaning.specs.Context as meaning
 use Rattle.logic_meaning.specs.Context.{Context}
 use Rattle.logic_meaning.specs.Every.{Every}
 use Rattle.logic_meaning.specs.Fold.{fold_list}
@@ -8,7 +9,6 @@ use Rattle.logic_meaning.specs.Formula.{also}
 use Rattle.logic_meaning.specs.declared.junction.Junction.TheVariants.{Disjunction}
 use Rattle.logic_meaning.specs.Some.{EachOf}
 use Rattle.logic_meaning.specs.Tree.{Tree}
-use Rattle.normal_atoms.specs.declared.atoms.Context as code
 use Rattle.normal_atoms.specs.Atoms.{context_of, atom_of}
 use Rattle.logic_meaning.specs.NormalForm.{IsNormal}
 use Rattle.elimination_theory.proofs.SomeListed.{each_map}
@@ -22,6 +22,7 @@ use Rattle.formula_store.specs.Nodes.{tree, IsId}
 use Rattle.case_theory.specs.Block.{ex_all}
 use Rattle.case_theory.specs.CaseTree.{without_all}
 use Rattle.case_theory.specs.Pending.{Pending, ArePending, AreEnded, pending_trees}
+use Rattle.case_theory.specs.Under.{Lack}
 use Rattle.case_theory.specs.Worked.{IsWorked}
 use Rattle.case_theory.proofs.Ends.{block_worked}
 use Rattle.case_theory.proofs.Worked.{working_goes_on}
@@ -29,7 +30,10 @@ use Rattle.engine_answers.specs.Blocks.{is_asked}
 use Rattle.branch_rounds.specs.declared.work.Work.{Work}
 use Rattle.branch_rounds.specs.Branches.{Seen, IsOpen, AllStand, AreBranchesOf, numbers}
 use Rattle.engine_answers.specs.declared.inner_blocks_block.Block.{Block}
+use Rattle.narrowed_blocks.specs.Narrowing.{IsNarrowed}
 use Rattle.engine_answers.specs.InnerBlocksBlocks.{IsBlock, IsBlockOver}
+use Rattle.engine_answers.proofs.FewerNames.{without_all_same, left_lack, narrowed_worked}
+use Rattle.engine_answers.proofs.Under.{under_lack}
 
 -- ---- a formula or its negation
 
@@ -38,7 +42,7 @@ forth : (c : Context) (ks : List meant.Atom) (b : Bool) (f g : Tree) → Every (
 forth c ks true f g n w = w
 forth c ks false f g n w = (working_goes_on c ks).forth f g n w
 
-back : (c : Context) (ks : List meant.Atom) (b : Bool) (f g : Tree) → Every (IsNormal c) f → IsWorked c ks (turned b f) g → IsWorked c ks f (turned b g)
+pub back : (c : Context) (ks : List meant.Atom) (b : Bool) (f g : Tree) → Every (IsNormal c) f → IsWorked c ks (turned b f) g → IsWorked c ks f (turned b g)
 back c ks true f g n w = w
 back c ks false f g n w = (working_goes_on c ks).back f g n w
 
@@ -82,21 +86,46 @@ module _ (nodes : List (Shape FormulaId)) where
 
 -- ---- the block
 
-module _ (b : Block) (h : IsBlock b) (g m t s r : Tree) (made : m ≡ turned (is_asked b.quantifier) g) (nodes : List (Shape FormulaId)) (bs : List Seen)
-    (are : AreBranchesOf b.under.now m (numbers b.names.now) nodes bs) (joined : t ≡ fold_list Disjunction (members (map (λ (d : Seen). tree nodes d.formula) bs)))
-    (small : IsWorked (context_of b.work.now.context) (map atom_of b.work.now.assumed.now) t s) (closed : r ≡ turned (is_asked b.quantifier) s) where
-  -- what is made of its branches is what the block is worked on to
-  pub block_closed : (f inner : Tree) → IsBlockOver (context_of b.work.now.context) b.quantifier (numbers b.names.now) f inner → IsWorked (context_of b.work.now.context) (map atom_of b.under.now.assumed.now) inner g →
-      IsWorked (context_of b.work.now.context) (map atom_of b.work.now.assumed.now) f r
-  block_closed f inner over worked =
-      let c = context_of b.work.now.context in
-      let ks = map atom_of b.work.now.assumed.now in
-      let us = map atom_of b.under.now.assumed.now in
-      let block = numbers b.names.now in
-      let sign = is_asked b.quantifier in
-      let branches = fold_list Disjunction (members (map (λ (d : Seen). tree nodes d.formula) bs)) in
-      let matrix : IsWorked c us (turned sign inner) m = subst (IsWorked c us (turned sign inner)) (sym made) (forth c us sign inner g over.inner_normal worked) in
-      let there = subst (λ (d : code.Context). IsWorked (context_of d) (without_all block ks) (turned sign inner) m) (sym h.under.context) (subst (λ (ls : List meant.Atom). IsWorked c ls (turned sign inner) m) h.under.assumed matrix) in
-      let whole = subst (λ (d : code.Context). IsWorked (context_of d) ks (ex_all block (turned sign inner)) branches) h.under.context (block_joined nodes b.under.now ks block (turned sign inner) m bs h.under.assumed there are) in
-      let one = subst (IsWorked c ks (turned sign f)) (sym joined) (subst (λ (e : Tree). IsWorked c ks e branches) over.whole whole) in
-      subst (IsWorked c ks f) (sym closed) (back c ks sign f s over.normal ((working_goes_on c ks).further (turned sign f) t s one small))
+module _ (b : Block) where
+  abbrev c : meaning.Context
+  c = context_of b.work.now.context
+
+  abbrev ks : List meant.Atom
+  ks = map atom_of b.work.now.assumed.now
+
+  abbrev us : List meant.Atom
+  us = map atom_of b.under.now.assumed.now
+
+  abbrev block : List ℕ
+  block = numbers b.names.now
+
+  abbrev sign : Bool
+  sign = is_asked b.quantifier
+
+  module _ (h : IsBlock b) where
+    -- under the block the assumptions have none of its names
+    pub under_has_none : EachOf (Lack us) block
+    under_has_none = under_lack b.work.now b.under.now b.names.now h.under
+
+    module _ (g : Tree) (left : List ℕ) (nodes : List (Shape FormulaId)) (bs : List Seen) (are : AreBranchesOf b.under.now g left nodes bs) (t s : Tree)
+        (joined : t ≡ fold_list Disjunction (members (map (λ (d : Seen). tree nodes d.formula) bs))) (small : IsWorked c ks t s) where
+      -- what is made of the branches of what is left of it is what the block is worked on to
+      pub block_short : (f m : Tree) → IsNarrowed c us m block g left → IsWorked c us f m → IsWorked c ks (ex_all block f) s
+      block_short f m narrowed worked =
+          let there = context_of b.under.now.context in
+          let same : there ≡ c = ap context_of h.under.context in
+          let branches = fold_list Disjunction (members (map (λ (d : Seen). tree nodes d.formula) bs)) in
+          let lacks = left_lack c us block left m g narrowed under_has_none in
+          let itself : IsWorked there (without_all left us) g g = (working_goes_on there (without_all left us)).itself g (subst (λ k. IsTidy k g) (sym same) narrowed.tidy) in
+          let over_left : IsWorked c us (ex_all left g) branches = subst (λ k. IsWorked k us (ex_all left g) branches) same (block_joined nodes b.under.now us left g g bs (sym (without_all_same left us lacks)) itself are) in
+          let over_block = narrowed_worked c us block left m g narrowed under_has_none f worked branches over_left in
+          let all = (working_goes_on c ks).more_atoms block (ex_all block f) branches (subst (λ ls. IsWorked c ls (ex_all block f) branches) h.under.assumed over_block) in
+          (working_goes_on c ks).further (ex_all block f) t s (subst (IsWorked c ks (ex_all block f)) (sym joined) all) small
+
+  module _ (g m s r : Tree) (made : m ≡ turned sign g) (short : (f : Tree) → IsWorked c us f m → IsWorked c ks (ex_all block f) s) (closed : r ≡ turned sign s) where
+    -- a block of the other quantifier is turned round
+    pub block_closed : (f inner : Tree) → IsBlockOver c b.quantifier block f inner → IsWorked c us inner g → IsWorked c ks f r
+    block_closed f inner over worked =
+        let matrix : IsWorked c us (turned sign inner) m = subst (IsWorked c us (turned sign inner)) (sym made) (forth c us sign inner g over.inner_normal worked) in
+        let whole = subst (λ e. IsWorked c ks e s) over.whole (short (turned sign inner) matrix) in
+        subst (IsWorked c ks f) (sym closed) (back c ks sign f s over.normal whole)

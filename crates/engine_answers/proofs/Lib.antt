@@ -1,6 +1,10 @@
 mod Chains
 pub mod Leading
+mod FewerNames
 mod Closing
+mod Conditions
+mod Beginning
+mod Equated
 mod Members
 mod Remembered
 pub mod Lacking

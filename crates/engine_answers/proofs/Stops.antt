@@ -1,5 +1,5 @@
 -- The reference elimination of a formula, of its negation normal form, and of its case matrix.
-use Rattle.std.proofs.Common.{◌≡◌, ℕ, List, [], Some, ap, ◌∙◌, sym, subst}
+use Rattle.std.proofs.Common.{◌≡◌, ◌⊎◌, inl, inr, ℕ, List, [], Some, ap, ◌∙◌, sym, subst}
 use Rattle.std.specs.Prelude.{Result, Ok, Err, IfErr}
 use Rattle.logic_meaning.specs.Context.{Context}
 use Rattle.logic_meaning.specs.Every.{Every}
@@ -14,12 +14,19 @@ use Rattle.reference_engine.specs.declared.measured.Measured.{Measured}
 use Rattle.reference_engine.specs.Told.{StopsWith}
 use Rattle.reference_engine.specs.declared.measured.Measured.TheVariants as measured
 use Rattle.reference_engine.proofs.FormAgain.{normal_tree_again}
+use Rattle.branch_rounds.specs.declared.error.RoundError.{RoundError}
+use Rattle.branch_rounds.specs.declared.error.RoundError.TheVariants as round
 use Rattle.case_theory.specs.Fallback.{stop_of, IsDone}
 use Rattle.case_theory.proofs.Fallback.{stops_one, matrix_done}
 
 pub err_map : {T E : Type 0} {P Q : E → Type 0} (r : Result T E) → ((e : E) → P e → Q e) → IfErr r P → IfErr r Q
 err_map (Ok x) f h = tt
 err_map (Err e) f h = f e h
+
+-- neither limit is want of memory
+pub no_limit : (e : RoundError) → (e ≡ round.Overflow) ⊎ (e ≡ round.Nodes) → e ≡ round.Memory → ⊥
+no_limit e (inl o) m = let no : round.Overflow ≡ round.Memory = sym o ∙ m in cc
+no_limit e (inr o) m = let no : round.Nodes ≡ round.Memory = sym o ∙ m in cc
 
 -- two that stop with one word
 pub stopped_so : {A B : Type 0} (s : stop.Stop) (o : Outcome A) (p : Outcome B) → stop_of o ≡ stop_of p → o ≡ stopped s → p ≡ stopped s

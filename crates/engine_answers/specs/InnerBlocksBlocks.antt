@@ -10,9 +10,12 @@ use Rattle.logic_meaning.specs.NormalForm.{IsNormal}
 use Rattle.logic_meaning.specs.Reference.{turned}
 use Rattle.formula_tree.specs.declared.shape.Shape.{Shape}
 use Rattle.formula_store.specs.declared.id.FormulaId.{FormulaId}
+use Rattle.formula_store.specs.Nodes.{tree}
 use Rattle.case_theory.specs.Block.{ex_all}
 use Rattle.case_theory.specs.CaseTree.{without_all}
 use Rattle.case_theory.specs.Worked.{IsWorked}
+use Rattle.narrowed_blocks.specs.declared.narrowing.NarrowedBlock.{NarrowedBlock}
+use Rattle.narrowed_blocks.specs.Narrowing.{IsNarrowed, IsNarrowedTo}
 use Rattle.engine_answers.specs.Blocks.{is_asked}
 use Rattle.branch_rounds.specs.declared.work.Work.{Work}
 use Rattle.branch_rounds.specs.Branches.{numbers}
@@ -41,3 +44,12 @@ pub record IsBlockOver (c : Context) (q : Quantifier) (block : List ℕ) (f inne
 abbrev pub ClosesBlock : Block → Tree → List (Shape FormulaId) → FormulaId → Type 0
 ClosesBlock b g nodes r = (f inner : Tree) → IsBlockOver (context_of b.work.now.context) b.quantifier (numbers b.names.now) f inner →
     IsWorked (context_of b.work.now.context) (map atom_of b.under.now.assumed.now) inner g → IsWorkedTo (context_of b.work.now.context) (map atom_of b.work.now.assumed.now) f nodes r
+
+-- this is left of the block of ex over m, where the assumptions without its names are true
+abbrev pub IsLeftOf : Block → Tree → List (Shape FormulaId) → NarrowedBlock → Type 0
+IsLeftOf b m nodes n = IsNarrowedTo (context_of b.work.now.context) (map atom_of b.under.now.assumed.now) m (numbers b.names.now) nodes n
+
+-- Where the formula inside the block of ex was worked on to m, of whose block this is left, the block is worked on to the formula of the id.
+abbrev pub IsShortOver : Block → List (Shape FormulaId) → NarrowedBlock → List (Shape FormulaId) → FormulaId → Type 0
+IsShortOver b old n new r = (f m : Tree) → IsNarrowed (context_of b.work.now.context) (map atom_of b.under.now.assumed.now) m (numbers b.names.now) (tree old n.matrix) (numbers n.names.items) →
+    IsWorked (context_of b.work.now.context) (map atom_of b.under.now.assumed.now) f m → IsWorkedTo (context_of b.work.now.context) (map atom_of b.work.now.assumed.now) (ex_all (numbers b.names.now) f) new r

@@ -5,6 +5,9 @@ pub mod InnerBlocksBlocks
 pub mod Without
 pub mod Listed
 pub mod Tasks
+pub mod Begun
+pub mod Found
+pub mod Equations
 pub mod Direct
 pub mod CaseTrees
 pub mod Thinned

@@ -1,13 +1,13 @@
 //! The engine's own way: the branches of the leading block.
 
-ghost use Rattle.std.specs.Prelude.{◌≡◌, ◌≤◌, ◌<◌, ◌+◌, ℕ, IfOk, IsTrue, MatchResult, length, map};
+ghost use Rattle.std.specs.Prelude.{◌≡◌, ◌≤◌, ◌<◌, ◌+◌, ℕ, IfOk, IfErr, IsTrue, MatchResult, length, map};
 ghost use Rattle.logic_meaning.specs.Answer.{Place};
 ghost use Rattle.logic_meaning.specs.Every.{Every};
 ghost use Rattle.logic_meaning.specs.Fold.{folded};
 ghost use Rattle.logic_meaning.specs.Shape.{IsQuantifierFree};
 ghost use Rattle.logic_meaning.specs.Plain.{IsNegationNormal};
 ghost use Rattle.logic_meaning.specs.Sizes.{nodes};
-ghost use Rattle.logic_meaning.specs.Tree.{Trees};
+ghost use Rattle.logic_meaning.specs.Tree.{Tree, Trees};
 ghost use Rattle.normal_atoms.specs.Atoms.{context_of, atom_of};
 ghost use Rattle.logic_meaning.specs.NormalForm.{IsNormal};
 ghost use Rattle.logic_meaning.specs.Reference.{normal_tree};
@@ -18,6 +18,7 @@ ghost use Rattle.branch_rounds.specs.Worked.{IsWork, IsWorkedTo};
 ghost use Rattle.engine_answers.specs.CaseTrees.{IsCaseTreeOf};
 ghost use Rattle.engine_answers.specs.Direct.{IsDirectTree};
 ghost use Rattle.engine_answers.specs.Tasks.{IsTask};
+ghost use Rattle.engine_answers.specs.Begun.{IsBegun, IsUnpaid};
 
 use crate::assumed::without_names;
 use crate::block::{LeadingBlock, leading_block};
@@ -27,9 +28,19 @@ use crate::task::Task;
 use crate::working::worked;
 use branch_rounds::{Budget, RoundError, Work, block_branches};
 use formula_store::{FormulaId, Store};
-use normal_atoms::Context;
+use normal_atoms::{Atom, Context};
 use qe_parallel::Gate;
 use std::thread::Threads;
+
+/// The leading block of a formula, with what it is worked on under: the assumptions without its names, the matrix without quantifiers,
+/// and what may still be done.
+#[derive(Drop)]
+pub(crate) struct Begun {
+    pub(crate) block: LeadingBlock,
+    pub(crate) assumed: Vec<Atom>,
+    pub(crate) matrix: FormulaId,
+    pub(crate) budget: Budget,
+}
 
 impl Task<'_> {
     /// The cases of the leading block by its branches, whatever stops them; blocks inside the matrix are eliminated in the same way,
@@ -49,33 +60,91 @@ impl Task<'_> {
             MatchResult result (IsDirectTree x fs s store.new) (λ e. e ≡ RoundError.Memory) }
         ensures kept { Keeps (IsId store.old) (tree store.old) (IsId store.new) (tree store.new) }
     {
+        match self.begun(rt, store, id, gate) {
+            Ok(begun) => self.cases_of(rt, store, begun, gate),
+            Err(error) => Err(error),
+        }
+    }
+
+    /// The leading block begun: its matrix worked on, under the assumptions without its names. A direct formula is stopped by want of
+    /// memory alone. The formulas of the store stay.
+    pub(crate) fn begun<R: Threads + Sync, G: Gate + Sync>(
+        &self,
+        rt: &R,
+        store: &mut Store,
+        id: FormulaId,
+        gate: &G,
+    ) -> Result<Begun, RoundError>
+        requires task { IsTask self.now }
+        requires id { IsId store.old id }
+        requires normal { Every (IsNormal (context_of self.now.context)) (tree store.old id) }
+        ensures begun { IfOk result (IsBegun self.now (tree store.old id) store.new) }
+        ensures unpaid { IfOk result (IsUnpaid self.now store.new) }
+        ensures direct { (x : ℕ) (fs : Trees) (s : Place) → self.now.context ≡ Context.Fields → IsDirect self.now.limits.nodes (normal_tree (tree store.old id)) x fs s →
+            IfErr result (λ e. e ≡ RoundError.Memory) }
+        ensures kept { Keeps (IsId store.old) (tree store.old) (IsId store.new) (tree store.new) }
+    {
         let block = leading_block(self.alloc, store, id)?;
         let assumed = without_names(self.alloc, self.theory, &block.names)?;
-        let work = Work {
-            alloc: self.alloc,
-            context: self.context,
-            assumed: &assumed,
-            workers: self.limits.workers,
-        };
+        let work = self.work(&assumed);
         let mut budget = Budget::of_limit(self.limits.nodes);
         let matrix = match self.matrix_worked(rt, &work, &mut budget, store, &block, gate) {
             Ok(matrix) => matrix,
             Err(error) => return Err(error),
         };
+        Ok(Begun {
+            block,
+            assumed,
+            matrix,
+            budget,
+        })
+    }
+
+    /// The cases of the block that is begun, by its branches. A direct formula for which nothing was paid is stopped by want of memory
+    /// alone. The formulas of the store stay.
+    pub(crate) fn cases_of<R: Threads + Sync, G: Gate + Sync>(
+        &self,
+        rt: &R,
+        store: &mut Store,
+        mut begun: Begun,
+        gate: &G,
+    ) -> Result<CaseTree, RoundError>
+        requires task { IsTask self.now }
+        requires begun { (f : Tree) × IsBegun self.now f store.old begun }
+        ensures cases { IfOk result (λ t. (f : Tree) → IsBegun self.now f store.old begun → IsCaseTreeOf (context_of self.now.context) (map atom_of self.now.theory.now) f store.new t) }
+        ensures direct { (f : Tree) (x : ℕ) (fs : Trees) (s : Place) → IsBegun self.now f store.old begun → IsUnpaid self.now store.old begun → self.now.context ≡ Context.Fields → IsDirect self.now.limits.nodes (normal_tree f) x fs s →
+            MatchResult result (IsDirectTree x fs s store.new) (λ e. e ≡ RoundError.Memory) }
+        ensures kept { Keeps (IsId store.old) (tree store.old) (IsId store.new) (tree store.new) }
+    {
+        let work = self.work(&begun.assumed);
         let branches = match block_branches(
             rt,
             &work,
-            &mut budget,
+            &mut begun.budget,
             store,
-            matrix,
-            &block.names,
+            begun.matrix,
+            &begun.block.names,
             gate,
         ) {
             Ok(branches) => branches,
             Err(error) => return Err(error),
         };
         let cases = of_branches(self.alloc, branches)?;
-        Ok(case_tree(block, matrix, cases))
+        Ok(case_tree(begun.block, begun.matrix, cases))
+    }
+
+    /// What all steps share, under these assumptions.
+    pub(crate) fn work<'a>(&self, assumed: &'a [Atom]) -> Work<'a>
+        ensures context { result.context ≡ self.now.context }
+        ensures assumed { result.assumed.now ≡ assumed.now }
+        ensures workers { result.workers ≡ self.now.limits.workers }
+    {
+        Work {
+            alloc: self.alloc,
+            context: self.context,
+            assumed,
+            workers: self.limits.workers,
+        }
     }
 
     /// The matrix without its quantifiers, under the assumptions: one without quantifiers is folded only. `Nodes` comes at once where

@@ -1,6 +1,7 @@
 //! The leading block of a formula of a store: its quantifier, its names, and the matrix whose cases are asked.
 #![tactic(auto)]
 
+mod answer;
 mod answers;
 mod assumed;
 mod block;
@@ -30,6 +31,7 @@ mod truths;
 mod verdict;
 mod working;
 
+pub use answer::Answer;
 pub use assumed::without_names;
 pub use block::{LeadingBlock, asked, leading_block};
 pub use case_tree::{Case, CaseTree};

@@ -1,7 +1,7 @@
 -- What the cases of a case tree give: a condition, and cases that are left.
 use Rattle.std.proofs.Common.{◌≡◌, ℕ, ◌<◌, ◌≤◌, List, [], ◌∷◌, All as Each, Bool, false, not, sym, ap, ◌∙◌, subst, refl, arith}
 use Rattle.std.proofs.lemmas.List.Elements.{recursion_from_All}
-use Rattle.std.specs.Prelude.{Result, Err, IfErr}
+use Rattle.std.specs.Prelude.{Result, Ok, Err, IfOk, IfErr, OnOk}
 use Rattle.logic_meaning.specs.Answer.{Place}
 use Rattle.logic_meaning.specs.Atom.{Atom}
 use Rattle.logic_meaning.specs.Context.{Context, Fields}
@@ -29,6 +29,8 @@ use Rattle.formula_store.specs.Nodes.{tree}
 use Rattle.case_theory.specs.CaseTree.{without_all, IsCaseUnder}
 use Rattle.logic_meaning.specs.Direct.{IsDirect}
 use Rattle.case_theory.proofs.Fallback.{stops_one}
+use Rattle.engine_answers.specs.declared.answer.Answer.{Answer}
+use Rattle.engine_answers.specs.declared.answer.Answer.TheVariants as answer
 use Rattle.engine_answers.specs.declared.case_tree.Case as code
 use Rattle.engine_answers.specs.declared.case_tree.CaseTree.{CaseTree}
 use Rattle.engine_answers.specs.CaseTrees.{cases_seen, guards_together, IsCaseTreeOf}
@@ -37,12 +39,12 @@ use Rattle.engine_answers.proofs.Stops.{stopped_so}
 use Rattle.form_commands.specs.declared.error.FormsError.{FormsError}
 use Rattle.form_commands.specs.declared.error.FormsError.TheVariants as error
 use Rattle.form_commands.specs.Cases.{AreLeftOf, AreCasesFor}
-use Rattle.form_commands.specs.Conditions.{IsConditionByCases, said_of}
+use Rattle.form_commands.specs.Conditions.{IsAnswerFor, IsConditionByCases, IsNotDirect, said_of}
 use Rattle.form_commands.specs.Faults.{measured_error, EliminationFault, SimplificationFault, ConditionFault, CasesFault}
 use Rattle.form_commands.specs.Forms.{IsSimplifiedAs, IsSimplifiedAnswer}
 use Rattle.form_commands.proofs.CaseLemmas.{guard_orderly, cases_fault}
 use Rattle.form_commands.proofs.CasesFor.{points_over, tree_cases}
-use Rattle.form_commands.proofs.ConditionsFor.{condition_for, guards_tidy, joined_names, together_orderly, said_condition}
+use Rattle.form_commands.proofs.ConditionsFor.{condition_for, worked_condition, guards_tidy, joined_names, together_orderly, said_condition}
 use Rattle.form_commands.proofs.DirectConditions.{is_asked, joined_few, joined_no_larger}
 
 -- ---- what stops an elimination
@@ -126,19 +128,50 @@ module _ (k : code_context.Context) (ks : List Atom) (f : Tree) (normal : Every 
     }
 
     -- where what is said passes the limit the formula is not direct
-    module _ (large : limit < nodes (said_of t.universal (guards_together seen))) where
-      not_direct : (x : ℕ) (fs : Trees) (s : Place) → c ≡ Fields → IsDirect limit (normal_tree f) x fs s → ⊥
-      not_direct x fs s e d = let few = said_few x fs s e d in omega (arith, large)
+    pub not_direct : limit < nodes (said_of t.universal (guards_together seen)) → IsNotDirect c limit f
+    not_direct large x fs s e d = let few = said_few x fs s e d in omega (arith, large, few)
 
-      pub by_reference : (g : Tree) → IsSimplifiedAnswer c ks limit f g → IsConditionByCases c ks limit f g
-      by_reference g a = record { condition = condition_for c ks limit f g a; direct = λ x fs s e d. absurd (not_direct x fs s e d) }
+-- ---- by the reference elimination
 
-      pub reference_refused : (e : FormsError) → EliminationFault c limit f e → ConditionFault c limit f e
-      reference_refused e a = record { stops = a; direct = λ x fs s i d. absurd (not_direct x fs s i d) }
+module _ (c : Context) (ks : List Atom) (limit : ℕ) (f : Tree) (n : IsNotDirect c limit f) where
+  pub by_reference : (g : Tree) → IsSimplifiedAnswer c ks limit f g → IsConditionByCases c ks limit f g
+  by_reference g a = record { condition = condition_for c ks limit f g a; direct = λ x fs s e d. absurd (n x fs s e d) }
+
+  pub reference_refused : (e : FormsError) → EliminationFault c limit f e → ConditionFault c limit f e
+  reference_refused e a = record { stops = a; direct = λ x fs s i d. absurd (n x fs s i d) }
+
+-- ---- a condition that is found
+
+module _ (k : code_context.Context) (ks : List Atom) (limit : ℕ) (f : Tree) (store : List (Shape FormulaId)) (id : FormulaId) (h : IsAnswerFor k ks limit f store (answer.Condition id)) where
+  pub found_orderly : IsOrderly (IsNormal (context_of k)) (tree store id)
+  found_orderly = guard_orderly (context_of k) (tree store id) h.found.worked.tidy
+
+  pub found_not_direct : IsNotDirect (context_of k) limit f
+  found_not_direct x fs s e d = h.direct x fs s (fields_are k e) d
+
+  pub by_condition : (g : Tree) → IsSimplifiedAs (context_of k) ks (tree store id) g → nodes (tree store id) ≤ limit → IsConditionByCases (context_of k) ks limit f g
+  by_condition g s few = record {
+    condition = worked_condition (context_of k) ks limit f (tree store id) g h.found.worked s few;
+    direct = λ x fs at e d. absurd (found_not_direct x fs at e d);
+  }
+
+-- it is told of each formula that it is an answer for
+pub condition_told : (k : code_context.Context) (ks : List Atom) (limit : ℕ) (store : List (Shape FormulaId)) (a : Answer) (id : FormulaId) → a ≡ answer.Condition id → (new : List (Shape FormulaId)) (r : Result FormulaId FormsError) →
+    IfOk r (λ q. IsSimplifiedAs (context_of k) ks (tree store id) (tree new q)) → OnOk r (nodes (tree store id) ≤ limit) → IfOk r (λ q. (f : Tree) → IsAnswerFor k ks limit f store a → IsConditionByCases (context_of k) ks limit f (tree new q))
+condition_told k ks limit store a id is new (Ok q) s few = λ f h. by_condition k ks limit f store id (subst (IsAnswerFor k ks limit f store) is h) (tree new q) s few
+condition_told k ks limit store a id is new (Err e) s few = tt
+
+-- ---- what is refused for its nodes
+
+pub refused_not_direct : (k : code_context.Context) (ks : List Atom) (limit : ℕ) (store : List (Shape FormulaId)) (a : Answer) (r : Result FormulaId FormsError) (e : FormsError) →
+    IfErr r (λ d. (f : Tree) → IsAnswerFor k ks limit f store a → d ≡ error.Nodes → IsNotDirect (context_of k) limit f) → r ≡ Err e → e ≡ error.Nodes → (f : Tree) → IsAnswerFor k ks limit f store a → IsNotDirect (context_of k) limit f
+refused_not_direct k ks limit store a r e h i n f b =
+    let at : (g : Tree) → IsAnswerFor k ks limit g store a → e ≡ error.Nodes → IsNotDirect (context_of k) limit g = subst (λ q. IfErr q (λ d. (g : Tree) → IsAnswerFor k ks limit g store a → d ≡ error.Nodes → IsNotDirect (context_of k) limit g)) i h in
+    at f b n
 
 -- what is said is refused for its nodes
-pub large_of : {T : Type 0} (limit : ℕ) (g : Tree) (r : Result T FormsError) (e : FormsError) → IfErr r (SimplificationFault limit g) → r ≡ Err e → e ≡ error.Nodes → limit < nodes g
-large_of limit g r e h i n = subst (SimplificationFault limit g) n (subst (λ r. IfErr r (SimplificationFault limit g)) i h)
+pub large_at : (limit : ℕ) (g : Tree) (e : FormsError) → SimplificationFault limit g e → e ≡ error.Nodes → limit < nodes g
+large_at limit g e h n = subst (SimplificationFault limit g) n h
 
 -- want of memory is no more than that
 pub memory_fault : (c : Context) (limit : ℕ) (f : Tree) → ConditionFault c limit f error.Memory

@@ -34,6 +34,7 @@ use Rattle.form_commands.specs.declared.way.Way.{Way}
 use Rattle.form_commands.specs.declared.way.Way.TheVariants as way
 use Rattle.form_commands.proofs.CasesFor.{fewer_true}
 use Rattle.form_commands.proofs.EliminatedLemmas.{plain_free, free_below, within_of_names, unquantified_bound, negation_orderly, orderly_members, orderly_every}
+use Rattle.case_theory.specs.Worked.{IsWorked}
 use Rattle.form_commands.proofs.CaseLemmas.{guard_orderly}
 
 -- what the reference elimination gives, simplified, is a condition
@@ -50,6 +51,18 @@ condition_for c ks limit f t h =
       orderly = s.orderly;
       normal = s.normal;
     }
+
+-- so is what the formula is worked on to, simplified
+pub worked_condition : (c : Context) (ks : List Atom) (limit : ℕ) (f t g : Tree) → IsWorked c ks f t → IsSimplifiedAs c ks t g → nodes t ≤ limit → IsConditionFor c ks limit f g
+worked_condition c ks limit f t g w s few = record {
+  free = s.free (plain_free t w.tidy.is_plain);
+  names = λ y u. w.names y (s.names y u);
+  reduced = s.reduced;
+  truth = λ p o u. both_ways (s.truth p o u) (turn_round (w.equivalent p o u));
+  small = let n = s.nodes in omega (arith, n, few);
+  orderly = s.orderly;
+  normal = s.normal;
+}
 
 -- a form without quantifiers is a condition, whichever way it was found
 pub eliminated_for : (way : Way) (c : Context) (count : ℕ) (ks : List Atom) (limit : ℕ) (f t : Tree) → IsFormOf c count ks limit (form.Eliminated way) f t → IsConditionFor c ks limit f t

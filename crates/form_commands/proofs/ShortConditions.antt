@@ -47,7 +47,8 @@ module _ (c : Context) (ks : List Atom) (limit : ℕ) (f : Tree) where
             ];
       }
 
-  pub shortened_result : {E : Type 0} (t : Tree) (nodes : List (Shape FormulaId)) (r : Result FormulaId E) → IsConditionByCases c ks limit f t → IfOk r (IsShort c ks t nodes) → IfOk r (λ id. IsConstant t → tree nodes id ≡ t) →
-      IfOk r (λ id. IsConditionByCases c ks limit f (tree nodes id))
-  shortened_result t nodes (Ok id) h s same = shortened_condition t nodes id h s same
-  shortened_result t nodes (Err e) h s same = tt
+-- so it is for each formula that it is a condition for
+pub shortened_told : {E : Type 0} (c : Context) (ks : List Atom) (limit : ℕ) (H : Tree → Type 0) (t : Tree) (nodes : List (Shape FormulaId)) (r : Result FormulaId E) → ((f : Tree) → H f → IsConditionByCases c ks limit f t) →
+    IfOk r (IsShort c ks t nodes) → IfOk r (λ id. IsConstant t → tree nodes id ≡ t) → IfOk r (λ id. (f : Tree) → H f → IsConditionByCases c ks limit f (tree nodes id))
+shortened_told c ks limit H t nodes (Ok id) h s same = λ f a. shortened_condition c ks limit f t nodes id (h f a) s same
+shortened_told c ks limit H t nodes (Err e) h s same = tt

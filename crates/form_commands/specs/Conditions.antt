@@ -18,6 +18,13 @@ use Rattle.shape_theory.specs.Simplifiable.{EquivalentUnder}
 use Rattle.logic_meaning.specs.Reference.{normal_tree}
 use Rattle.logic_meaning.specs.Text.{tree_text}
 use Rattle.logic_meaning.specs.Direct.{IsDirect, direct_answer}
+use Rattle.normal_atoms.specs.declared.atoms.Context as code
+use Rattle.normal_atoms.specs.declared.atoms.Context.TheVariants as theory
+use Rattle.normal_atoms.specs.Atoms.{context_of}
+use Rattle.formula_tree.specs.declared.shape.Shape.{Shape}
+use Rattle.formula_store.specs.declared.id.FormulaId.{FormulaId}
+use Rattle.engine_answers.specs.declared.answer.Answer.{Answer}
+use Rattle.engine_answers.specs.Found.{IsFound, IsFoundDirect}
 
 -- t is a condition for f under the atoms ks: it has no quantifier and no other free names, is Reduced under ks, and has the truth of
 -- f where all of ks are true; it has at most so many nodes, normal atoms, and lists of two members at least
@@ -49,3 +56,13 @@ pub record IsConditionByCases (c : Context) (ks : List Atom) (limit : ℕ) (f t 
 abbrev pub said_of : Bool → Tree → Tree
 said_of false g = g
 said_of true g = normal_form_of_not negated_normal g
+
+-- the negation normal form of f is not direct over the fields
+abbrev pub IsNotDirect : Context → ℕ → Tree → Type 0
+IsNotDirect c limit f = (x : ℕ) (fs : Trees) (s : Place) → c ≡ Fields → ¬ (IsDirect limit (normal_tree f) x fs s)
+
+-- an answer for f under the atoms ks: a condition for it or its cases, and of a direct formula its few cases
+pub record IsAnswerFor (k : code.Context) (ks : List Atom) (limit : ℕ) (f : Tree) (store : List (Shape FormulaId)) (a : Answer) : Type 0 where
+  pub normal : Every (IsNormal (context_of k)) f
+  pub found : IsFound (context_of k) ks f store a
+  pub direct : (x : ℕ) (fs : Trees) (s : Place) → k ≡ theory.Fields → IsDirect limit (normal_tree f) x fs s → IsFoundDirect x fs s store a

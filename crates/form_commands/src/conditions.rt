@@ -6,6 +6,7 @@ ghost use Rattle.logic_meaning.specs.Every.{Every};
 ghost use Rattle.logic_meaning.specs.NegationNormal.{normal_form_of_not};
 ghost use Rattle.logic_meaning.specs.Sizes.{nodes};
 ghost use Rattle.logic_meaning.specs.Some.{EachOf};
+ghost use Rattle.logic_meaning.specs.Tree.{Tree};
 ghost use Rattle.normal_atoms.specs.Atoms.{context_of, atom_of, IsWellFormed};
 ghost use Rattle.logic_meaning.specs.NormalForm.{IsNormal, negated_normal};
 ghost use Rattle.shape_theory.specs.Orderly.{IsOrderly};
@@ -14,13 +15,13 @@ ghost use Rattle.formula_store.specs.Nodes.{tree, IsId};
 ghost use Rattle.short_answers.specs.Asking.{IsTidyId};
 ghost use Rattle.short_answers.specs.Shorter.{IsConstant, IsShort};
 ghost use Rattle.engine_answers.specs.CaseTrees.{cases_seen, guards_together};
-ghost use Rattle.form_commands.specs.Conditions.{said_of, IsConditionByCases};
+ghost use Rattle.form_commands.specs.Conditions.{said_of, IsAnswerFor, IsConditionByCases, IsNotDirect};
 ghost use Rattle.form_commands.specs.Faults.{ConditionFault, SimplificationFault};
 ghost use Rattle.form_commands.specs.Forms.{IsSimplifiedAs};
 
 use crate::error::{FormsError, measured_error};
 use crate::forms::{negated, simplified, simplified_answer};
-use engine_answers::{CaseTree, Engine, guards_together};
+use engine_answers::{Answer, CaseTree, Engine, guards_together};
 use formula_store::{FormulaId, Store};
 use formula_tree::{Maker, Shape};
 use normal_atoms::{Atom, Context};
@@ -28,8 +29,8 @@ use qe_parallel::Gate;
 use std::alloc::Global;
 use std::thread::Threads;
 
-/// A condition for the formula under the atoms, by cases: what the guards say together, simplified and shortened. Where that has more
-/// nodes than the limit as it stands, the reference elimination answers. So `Overflow` and `Nodes` come only where it stops with that
+/// A condition for the formula under the atoms: the one that the elimination finds, simplified, or what the guards of its cases say
+/// together, simplified and shortened. Where that has more nodes than the limit as it stands, the reference elimination answers. So `Overflow` and `Nodes` come only where it stops with that
 /// word, and over the fields neither comes of a formula whose negation normal form is direct.
 pub(crate) fn condition_by_cases<R: Threads + Sync, G: Gate + Sync>(
     engine: &Engine<'_, R, G>,
@@ -48,14 +49,43 @@ pub(crate) fn condition_by_cases<R: Threads + Sync, G: Gate + Sync>(
     ensures kept { Keeps (IsId store.old) (tree store.old) (IsId store.new) (tree store.new) }
 {
     let (alloc, context, limit) = (engine.alloc, engine.context, engine.limits.nodes);
-    let case_tree = match engine.cases(store, id, atoms) {
-        Ok(case_tree) => case_tree,
+    let answer = match engine.answer(store, id, atoms) {
+        Ok(answer) => answer,
         Err(error) => return Err(measured_error(error)),
     };
-    match said(alloc, store, context, limit, &case_tree, atoms) {
-        Ok(id) => shortened(engine, store, id, atoms),
+    match told(engine, store, &answer, atoms) {
+        Ok(id) => Ok(id),
         Err(FormsError::Nodes) => simplified_answer(alloc, store, context, limit, id, atoms),
         Err(_) => Err(FormsError::Memory),
+    }
+}
+
+/// What the answer says of the formula, simplified and shortened under the atoms. `Nodes` comes only where that has more nodes than the
+/// limit, and of no direct formula.
+fn told<R: Threads + Sync, G: Gate + Sync>(
+    engine: &Engine<'_, R, G>,
+    store: &mut Store,
+    answer: &Answer,
+    atoms: &[Atom],
+) -> Result<FormulaId, FormsError>
+    requires workers { 1 ≤ engine.now.limits.workers }
+    requires answer { (f : Tree) × IsAnswerFor engine.now.context (map atom_of atoms.now) engine.now.limits.nodes f store.old answer.now }
+    requires atoms { EachOf (IsNormal (context_of engine.now.context)) (map atom_of atoms.now) }
+    requires well_formed { AllByRecursion IsWellFormed atoms.now }
+    ensures made { IfOk result (IsId store.new) }
+    ensures told { IfOk result (λ r. (f : Tree) → IsAnswerFor engine.now.context (map atom_of atoms.now) engine.now.limits.nodes f store.old answer.now →
+        IsConditionByCases (context_of engine.now.context) (map atom_of atoms.now) engine.now.limits.nodes f (tree store.new r)) }
+    ensures fault { IfErr result (λ e. (f : Tree) → IsAnswerFor engine.now.context (map atom_of atoms.now) engine.now.limits.nodes f store.old answer.now → e ≡ FormsError.Nodes →
+        IsNotDirect (context_of engine.now.context) engine.now.limits.nodes f) }
+    ensures kept { Keeps (IsId store.old) (tree store.old) (IsId store.new) (tree store.new) }
+{
+    let (alloc, context, limit) = (engine.alloc, engine.context, engine.limits.nodes);
+    match answer {
+        Answer::Condition(id) => simplified(alloc, store, context, limit, *id, atoms),
+        Answer::Cases(case_tree) => match said(alloc, store, context, limit, case_tree, atoms) {
+            Ok(id) => shortened(engine, store, id, atoms),
+            Err(error) => Err(error),
+        },
     }
 }
 

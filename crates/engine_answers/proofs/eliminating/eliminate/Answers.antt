@@ -1,6 +1,4 @@
-use Rattle.std.proofs.Common.{◌≡◌, ◌⊎◌, inl, inr, ◌∙◌, sym, map, subst}
-use Rattle.branch_rounds.specs.declared.error.RoundError.{RoundError}
-use Rattle.branch_rounds.specs.declared.error.RoundError.TheVariants as round
+use Rattle.std.proofs.Common.{map, subst}
 use Rattle.std.specs.Prelude.{IfOk, IfErr}
 use Rattle.normal_atoms.specs.Atoms.{context_of, atom_of}
 use Rattle.logic_meaning.specs.Reference.{reference}
@@ -8,12 +6,8 @@ use Rattle.logic_meaning.specs.Tree.{Tree}
 use Rattle.formula_store.proofs.Makes.{keeps_then}
 use Rattle.reference_engine.specs.Told.{StopsWith}
 use Rattle.engine_answers.specs.CaseTrees.{IsCaseTreeOf}
+use Rattle.engine_answers.proofs.Stops.{no_limit}
 use Rattle.engine_answers.proofs.eliminating.eliminate.Goals as goal
-
--- neither limit is want of memory
-no_limit : (e : RoundError) → (e ≡ round.Overflow) ⊎ (e ≡ round.Nodes) → e ≡ round.Memory → ⊥
-no_limit e (inl o) m = let no : round.Overflow ≡ round.Memory = sym o ∙ m in cc
-no_limit e (inr o) m = let no : round.Nodes ≡ round.Memory = sym o ∙ m in cc
 
 pub returns-in-Overflow : goal.returns-in-Overflow
 returns-in-Overflow g c =
