@@ -8,8 +8,8 @@ use std::alloc::AllocError;
 use std::sync::atomic::{AtomicBool, Ordering};
 use std::thread::Threads;
 
-/// An elimination with two test points.
-pub(crate) const ELIMINATION: &[u8] = b"rlqe ex(x,x>a and x<b);";
+/// An elimination with two test points, which are wanted in its cases.
+pub(crate) const ELIMINATION: &[u8] = b"rlqea ex(x,x>a and x<b);";
 
 /// A grid of 2,000 points, in two pieces.
 pub(crate) const GRID: &[u8] = b"rlgrid(x>0,{x,1,2000,1});";
