@@ -16,7 +16,7 @@ ghost use Rattle.normal_forms.specs.Parts.{IsPart};
 
 use crate::absorption::Lines;
 use crate::inner::is_inner;
-use crate::lines::joined;
+use crate::lines::join;
 use crate::sieve::Sieve;
 use crate::sizes::Table;
 use formula_store::{FormulaId, Store};
@@ -148,7 +148,15 @@ fn member_lines(
     let mut lines = Sieve::of_constant(alloc, each_with_each)?;
     for id in ids {
         let more = formula_lines(alloc, store, context, inner, *id, table)?;
-        lines = joined(alloc, store, context, inner, each_with_each, lines, more)?;
+        join(
+            alloc,
+            store,
+            context,
+            inner,
+            each_with_each,
+            &mut lines,
+            more,
+        )?;
     }
     lines.into_lines()
 }

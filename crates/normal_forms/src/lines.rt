@@ -91,27 +91,26 @@ fn products(
     Ok(lines)
 }
 
-/// The inner lists of two members together: each with each where the members are joined as the atoms of an inner list,
-/// else all of them.
-pub(crate) fn joined(
+/// Joins more inner lists to these: each with each where the members are joined as the atoms of an inner list, else all of them.
+pub(crate) fn join(
     alloc: Global,
     store: &mut Store,
     context: Context,
     inner: Junction,
     each_with_each: bool,
-    lines: Sieve,
+    lines: &mut Sieve,
     more: Lines,
-) -> Result<Sieve, AllocError>
-    requires lines { AreLineIds (context_of context) store.old (swept lines.lines) }
+) -> Result<(), AllocError>
+    requires lines { AreLineIds (context_of context) store.old (swept lines.old.lines) }
     requires more { AreLineIds (context_of context) store.old more.items }
-    ensures joined { IfOk result (λ r. AreLines (context_of context) store.new (joined_lines (atom_kit (context_of context)) inner each_with_each (atom_lines store.old (swept lines.lines)) (atom_lines store.old more.items)) (swept r.lines)) }
+    ensures joined { OnOk result (AreLines (context_of context) store.new (joined_lines (atom_kit (context_of context)) inner each_with_each (atom_lines store.old (swept lines.old.lines)) (atom_lines store.old more.items)) (swept lines.new.lines)) }
     ensures kept { Keeps (IsId store.old) (tree store.old) (IsId store.new) (tree store.new) }
 {
     if each_with_each {
-        let firsts = lines.into_lines()?;
-        return products(alloc, store, context, inner, &firsts, &more);
+        let firsts = lines.take_lines()?;
+        *lines = products(alloc, store, context, inner, &firsts, &more)?;
+        return Ok(());
     }
-    let mut lines = lines;
     lines.add_all(more)?;
-    Ok(lines)
+    Ok(())
 }

@@ -12,6 +12,7 @@ use formula_store::FormulaId;
 use formula_tree::Ids;
 use std::alloc::{AllocError, Global};
 use std::marker::Model;
+use std::mem;
 
 // So many lists are looked at one by one before they are put among the paths.
 const FEW: usize = 16;
@@ -122,6 +123,15 @@ impl Sieve {
         }
         let atoms = sorted(self.alloc, line)?;
         self.paths.within(self.alloc, &atoms, self.count)
+    }
+
+    /// Takes out what is left of the lists, and leaves none.
+    pub(crate) fn take_lines(&mut self) -> Result<Lines, AllocError>
+        ensures taken { IfOk result (λ lines. lines.items ≡ swept self.old.lines) }
+        ensures none { self.new.lines ≡ [] }
+    {
+        let none = Sieve::new(self.alloc);
+        mem::replace(self, none).into_lines()
     }
 
     /// What is left of the lists: those in which no other one is within.

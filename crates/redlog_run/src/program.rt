@@ -17,7 +17,7 @@ use crate::team::Team;
 use crate::words::are_valid;
 use crate::write::write_answer;
 use program_meaning::{Language, Options, Sink, Source, Status};
-use qe_parallel::{Gate, OpenGate};
+use qe_parallel::Gate;
 use smtlib_front::Limits;
 use std::alloc::{AllocError, Global};
 use std::thread::Threads;
@@ -27,6 +27,21 @@ const NODES: u64 = 1_000_000;
 
 /// How many threads work on an elimination where no number is given.
 const WORKERS: usize = 4;
+
+/// From how many nodes on, those of all points together, the points of an elimination are shared out.
+const SHARED_FROM: u64 = 1_000_000;
+
+/// The gate of a run: it is passed at once, and shares out what is large enough to pay for threads.
+#[derive(Clone, Copy, Debug)]
+struct RunGate;
+
+impl Gate for RunGate {
+    fn pass(&self, _piece: usize) {}
+
+    fn shares(&self, nodes: u64) -> bool {
+        SHARED_FROM <= nodes
+    }
+}
 
 /// Reads a script from the source and writes the lines of its answers to the sink, under the words
 /// `[--nodes n] [--workers n] [--generate n | --smt]`: the first gives the limit of nodes; the second how many threads work on an
@@ -44,7 +59,7 @@ pub fn run<R: Threads + Sync, S: Source, K: Sink>(
         (ends (S.left source.old) (S.faults source.old) (K.wrote sink.old) (K.faults sink.old))
         (ends (S.left source.new) (S.faults source.new) (K.wrote sink.new) (K.faults sink.new)) result }
 {
-    run_gated(rt, alloc, words, source, sink, &OpenGate::new())
+    run_gated(rt, alloc, words, source, sink, &RunGate)
 }
 
 /// The same, where the gate is passed before each piece of an elimination that is shared out to threads.
