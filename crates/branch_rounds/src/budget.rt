@@ -5,10 +5,6 @@ ghost use Rattle.branch_rounds.specs.declared.error.RoundError.TheVariants.{Node
 
 use crate::error::RoundError;
 
-/// From how many nodes on, those of all points together, a step is worked on by many threads. To begin a thread costs 20 to 50
-/// microseconds, and a node at a point 100 to 200 nanoseconds.
-const SHARED_FROM: u64 = 2_000;
-
 /// How many nodes one elimination may make: some ten seconds.
 const ENGINE_NODES: u128 = 10_000_000;
 
@@ -39,25 +35,17 @@ const LARGE_MOST: u128 = 4_000_000;
 /// What the search for certificates may do in a question.
 const QUESTION_EFFORT: u64 = 10_000_000;
 
-/// The nodes that may still be made, the step that comes next, what the search for certificates may still do, and the nodes that
+/// The nodes that may still be made, what the search for certificates may still do, and the nodes that
 /// questions may still make. A step at so many points costs as many times the nodes of its branch and two more, before the first is
 /// put in. Once an elimination has added 600,000 formulas to the store, it takes only steps at one point.
 #[derive(Clone, Copy, Debug, PartialEq, Eq)]
 pub struct Budget {
     pub nodes: u128,
-    next: Next,
     /// With how many formulas in the store only steps at one point are taken; it is set by the first step.
     full: Option<usize>,
     pub(crate) effort: u64,
     questions: u128,
     large_questions: u8,
-}
-
-// Which step of the elimination comes next.
-#[derive(Clone, Copy, Debug, PartialEq, Eq)]
-enum Next {
-    First,
-    Later,
 }
 
 impl Budget {
@@ -68,7 +56,6 @@ impl Budget {
     {
         Budget {
             nodes: ENGINE_NODES.max(2 * limit as u128 + 8),
-            next: Next::First,
             full: None,
             effort: SEARCH_EFFORT,
             questions: QUESTIONS,
@@ -101,7 +88,6 @@ impl Budget {
     {
         Budget {
             nodes,
-            next: Next::Later,
             full: self.full,
             effort: self.effort.min(QUESTION_EFFORT),
             questions: 0,
@@ -161,20 +147,6 @@ impl Budget {
         }
     }
 
-    /// By how many of the threads the next step is worked on, at so many points on a branch of so many nodes: by all of them where it
-    /// is the first step of the elimination or large enough to be shared out, else by one.
-    pub(crate) fn threads(&self, workers: usize, points: usize, nodes: u64) -> usize
-        requires { 1 ≤ workers }
-        ensures some { 1 ≤ result }
-        ensures most { result ≤ workers }
-    {
-        let shared = match self.next {
-            Next::First => true,
-            Next::Later => SHARED_FROM <= nodes.saturating_mul(points as u64),
-        };
-        if shared { workers } else { 1 }
-    }
-
     /// Takes off what a step at so many points costs on a branch of so many nodes. Its only error is `Nodes`, exactly where that is
     /// more than there is, and then nothing is taken off.
     pub(crate) fn pay(&mut self, points: usize, nodes: u64) -> Result<(), RoundError>
@@ -188,7 +160,6 @@ impl Budget {
             return Err(RoundError::Nodes);
         }
         self.nodes -= cost;
-        self.next = Next::Later;
         Ok(())
     }
 }

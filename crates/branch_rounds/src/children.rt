@@ -34,7 +34,7 @@ pub(crate) struct Child {
 }
 
 impl Work<'_> {
-    /// What is left of the branch at the chosen points, put in by at most so many threads and each pruned under the assumptions,
+    /// What is left of the branch at the chosen points, put in by threads and each pruned under the assumptions,
     /// without what is `false`; where one of them is `true`, that one alone. `Overflow` comes only where a number that is formed for
     /// an atom at some point passes 2^127 - 1, else `Memory`. The formulas of the store stay.
     pub(crate) fn children<R: Threads + Sync, G: Gate + Sync>(
@@ -43,7 +43,6 @@ impl Work<'_> {
         store: &mut Store,
         branch: FormulaId,
         chosen: &Chosen,
-        workers: usize,
         reach: Reach,
         effort: &mut u64,
         gate: &G,
@@ -52,13 +51,12 @@ impl Work<'_> {
         requires id { IsId store.old branch }
         requires tidy { IsTidy (context_of self.now.context) (tree store.old branch) }
         requires points { HasPoints self.now.context (tree store.old branch) chosen.now }
-        requires workers { 1 ≤ workers }
         ensures children { IfOk result (λ v. AreChildrenOf self.now (tree store.old branch) chosen.now store.new v.items) }
         ensures overflow { IfErr result (λ e. e ≡ RoundError.Overflow → SomeOf (λ t. all_within (context_of self.now.context) t.name.number (place_of t) (tree store.old branch) ≡ false) chosen.now.points.items) }
         ensures word { IfErr result (λ e. ¬ (e ≡ RoundError.Nodes)) }
         ensures kept { Keeps (IsId store.old) (tree store.old) (IsId store.new) (tree store.new) }
     {
-        let put = match self.put_at_points(rt, store, branch, &chosen.points, workers, gate) {
+        let put = match self.put_at_points(rt, store, branch, &chosen.points, gate) {
             Ok(put) => put,
             Err(error) => return Err(error),
         };
@@ -72,14 +70,13 @@ impl Work<'_> {
         Ok(children)
     }
 
-    // The formula with the name at each of the points, by at most so many threads.
+    // The formula with the name at each of the points.
     fn put_at_points<R: Threads + Sync, G: Gate + Sync>(
         &self,
         rt: &R,
         store: &mut Store,
         branch: FormulaId,
         points: &[TestPoint],
-        workers: usize,
         gate: &G,
     ) -> Result<Vec<FormulaId>, RoundError>
         requires work { IsWork self.now }
@@ -87,7 +84,6 @@ impl Work<'_> {
         requires tidy { IsTidy (context_of self.now.context) (tree store.old branch) }
         requires points { All IsTestPoint points.now }
         requires places { All (λ t. IsPlaceIn (context_of self.now.context) (place_of t)) points.now }
-        requires workers { 1 ≤ workers }
         ensures made { IfOk result (λ ids. AreMade (IsId store.new) (tree store.new) ids.items (map (λ t. put (context_of self.now.context) t.name.number (place_of t) (tree store.old branch)) points.now)) }
         ensures overflow { IfErr result (λ e. e ≡ RoundError.Overflow → SomeOf (λ t. all_within (context_of self.now.context) t.name.number (place_of t) (tree store.old branch) ≡ false) points.now) }
         ensures word { IfErr result (λ e. ¬ (e ≡ RoundError.Nodes)) }
@@ -100,7 +96,7 @@ impl Work<'_> {
             self.context,
             branch,
             points,
-            workers,
+            self.workers,
             gate,
         ) {
             Ok(put) => Ok(put),

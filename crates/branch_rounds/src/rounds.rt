@@ -95,16 +95,13 @@ impl Work<'_> {
             Ok(choice) => choice,
             Err(error) => return Err(of_choice(error)),
         };
-        let workers = budget.threads(self.workers, choice.points.len(), nodes);
         if let Err(error) = budget.pay(choice.points.len(), nodes) {
             return Err(error);
         }
         let left = others(self.alloc, branch.left(), choice.name)?;
         let reach = reach_with(&left, choice.points.len());
         let effort = &mut budget.effort;
-        let children = match self.children(
-            rt, store, formula, &choice, workers, reach, effort, gate,
-        ) {
+        let children = match self.children(rt, store, formula, &choice, reach, effort, gate) {
             Ok(children) => children,
             Err(error) => return Err(error),
         };

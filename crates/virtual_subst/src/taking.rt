@@ -26,7 +26,7 @@ use std::thread::Threads;
 use test_points::TestPoint;
 
 /// The formula at each of the points, in their order, as `substitute_all` makes it by at most so many threads at once, taken into
-/// the store. `Overflow` comes only where a number that is formed for an atom at some point passes 2^127 - 1, else `Memory`. The
+/// the store; by one thread where the gate does not share out the nodes of all points. `Overflow` comes only where a number that is formed for an atom at some point passes 2^127 - 1, else `Memory`. The
 /// formulas of the store stay.
 pub fn put_at_all<R: Threads + Sync, G: Gate + Sync>(
     rt: &R,
@@ -47,12 +47,34 @@ pub fn put_at_all<R: Threads + Sync, G: Gate + Sync>(
     ensures overflow { IfErr result (λ e. e ≡ SubstError.Overflow → SomeOf (λ t. all_within (context_of context) t.name.number (place_of t) (tree store.old branch) ≡ false) points.now) }
     ensures kept { Keeps (IsId store.old) (tree store.old) (IsId store.new) (tree store.new) }
 {
+    let workers = threads(store, branch, points, workers, gate);
     let truths = Truths::of(store)?;
     if workers == 1 {
         put_each(alloc, store, context, branch, points, truths)
     } else {
         put_beside(rt, alloc, store, context, branch, points, workers, gate)
     }
+}
+
+// By how many of the threads the points are put in: by all where the gate shares out their nodes, else by one.
+fn threads<G: Gate>(
+    store: &Store,
+    branch: FormulaId,
+    points: &[TestPoint],
+    workers: usize,
+    gate: &G,
+) -> usize
+    requires id { IsId store.now branch }
+    requires workers { 1 ≤ workers }
+    ensures some { 1 ≤ result }
+    ensures most { result ≤ workers }
+{
+    if workers < 2 || points.len() < 2 {
+        return 1;
+    }
+    let nodes = store.facts(branch).nodes;
+    let shared = gate.shares(nodes.saturating_mul(points.len() as u64));
+    if shared { workers } else { 1 }
 }
 
 // The same by many threads: made beside the store, which they only read, and then taken in.
