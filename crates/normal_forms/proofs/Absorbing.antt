@@ -1,11 +1,11 @@
 -- The tests of lists of ids as searches.
-use Rattle.std.proofs.Common.{◌≡◌, ℕ, zero, suc, ◌+◌, ◌<◌, Bool, true, false, not, List, [], ◌∷◌, length, take, get_or, refl, sym, ap, ◌∙◌, filter, add-one, arith}
-use Rattle.std.specs.Prelude.{◌||◌, ◌&&◌, if◌then◌else◌}
+use Rattle.std.proofs.Common.{◌≡◌, ℕ, zero, suc, ◌+◌, ◌<◌, Bool, true, false, List, [], ◌∷◌, length, take, get_or, refl, sym, ap, ◌∙◌, add-one, arith}
+use Rattle.std.specs.Prelude.{◌||◌, ◌&&◌}
 use Rattle.std.specs.List.{list_any}
 use Rattle.logic_meaning.specs.declared.junction.Junction.TheVariants.{Conjunction}
 use Rattle.formula_store.specs.declared.id.FormulaId.{FormulaId}
 use Rattle.shape_theory.specs.Lines as clean
-use Rattle.normal_forms.specs.Atoms.{same_id, id_kit, is_within, some_within, not_above}
+use Rattle.normal_forms.specs.Atoms.{same_id, id_kit, is_within, some_within}
 
 and_left : (a b : Bool) → (a && b) ≡ true → a ≡ true
 and_left true b e = refl
@@ -62,11 +62,3 @@ pub some_here : (ls : List (List FormulaId)) (vs : List FormulaId) (i : ℕ) (d 
 some_here [] vs i d l e = absurd (omega arith)
 some_here (us ∷ ls) vs zero d l e = ap (λ b. b || some_within ls vs) e
 some_here (us ∷ ls) vs (suc i) d l e = ap (λ b. is_within us vs || b) (some_here ls vs i d (omega arith) e) ∙ or_true (is_within us vs)
-
-pub above_is : (ls : List (List FormulaId)) (vs : List FormulaId) → filter (λ us. not (is_within vs us)) ls ≡ not_above ls vs
-above_is [] vs = refl
-above_is (us ∷ ls) vs = split (is_within vs us) ∙ ap (λ t. if is_within vs us then t else us ∷ t) (above_is ls vs)
-  where
-    split : (b : Bool) → (if not b then us ∷ filter (λ ks. not (is_within vs ks)) ls else filter (λ ks. not (is_within vs ks)) ls) ≡ (if b then filter (λ ks. not (is_within vs ks)) ls else us ∷ filter (λ ks. not (is_within vs ks)) ls)
-    split true = refl
-    split false = refl

@@ -7,3 +7,9 @@ pub mod Capped
 pub mod Tables
 pub mod Parts
 pub mod Formed
+pub mod PathLaws
+pub mod Members
+pub mod Searching
+pub mod Sorting
+pub mod Sieving
+pub mod Sifting

@@ -3,3 +3,5 @@ pub mod Merging
 pub mod Sizes
 pub mod Parts
 pub mod Shapes
+pub mod Paths
+pub mod Sieves

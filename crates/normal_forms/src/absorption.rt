@@ -1,16 +1,15 @@
 //! Lists of atoms by their ids, none of which contains all atoms of another.
 
-ghost use Rattle.std.specs.Prelude.{◌≡◌, false, IsTrue, OnOk, IfErr};
-ghost use Rattle.normal_forms.specs.Atoms.{is_within, some_within, not_above, add};
+ghost use Rattle.std.specs.Prelude.{◌≡◌, false, true, drop, IsTrue, OnOk, IfOk, IfErr, length, ◌≤◌};
+ghost use Rattle.normal_forms.specs.Atoms.{is_within, some_within};
 
 use formula_store::FormulaId;
 use formula_tree::Ids;
-use std::alloc::AllocError;
 
 /// Lists of atoms.
 pub(crate) type Lines = Vec<Ids<FormulaId>>;
 
-/// Whether the last atom of the first list is missing in the second.
+// Whether the last atom of the first list is missing in the second.
 fn lacks_last(atoms: &[FormulaId], others: &[FormulaId]) -> bool
     ensures { IsTrue result → is_within atoms.now others.now ≡ false }
 {
@@ -20,7 +19,7 @@ fn lacks_last(atoms: &[FormulaId], others: &[FormulaId]) -> bool
 
 /// Whether each atom of the first list is in the second. The last one is looked for first: lists that begin alike mostly differ
 /// in it.
-fn is_within(atoms: &[FormulaId], others: &[FormulaId]) -> bool
+pub(crate) fn is_within(atoms: &[FormulaId], others: &[FormulaId]) -> bool
     ensures { result ≡ is_within atoms.now others.now }
 {
     if lacks_last(atoms, others) {
@@ -35,32 +34,13 @@ fn is_within(atoms: &[FormulaId], others: &[FormulaId]) -> bool
 }
 
 /// Whether some list is within this one.
-fn some_within(lines: &Lines, line: &Ids<FormulaId>) -> bool
-    ensures { result ≡ some_within lines.now.items line.now }
+pub(crate) fn some_within(lines: &[Ids<FormulaId>], line: &[FormulaId]) -> bool
+    ensures { result ≡ some_within lines.now line.now }
 {
     for other in lines {
-        if is_within(other.items(), line.items()) {
+        if is_within(other.items(), line) {
             return true;
         }
     }
     false
-}
-
-/// Drops the lists that this one is within.
-fn drop_above(lines: &mut Lines, line: &Ids<FormulaId>)
-    ensures { lines.new.items ≡ not_above lines.old.items line.now }
-{
-    lines.retain(|other| !is_within(line.items(), other.items()));
-}
-
-/// Adds a list, unless another is within it, and drops the others that it is within.
-pub(crate) fn add(lines: &mut Lines, line: Ids<FormulaId>) -> Result<(), AllocError>
-    ensures added { OnOk result (lines.new.items ≡ add lines.old.items line) }
-{
-    if some_within(lines, &line) {
-        return Ok(());
-    }
-    drop_above(lines, &line);
-    lines.push(line)?;
-    Ok(())
 }

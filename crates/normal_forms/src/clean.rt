@@ -17,6 +17,7 @@ ghost use Rattle.normal_forms.specs.Parts.{IsPart};
 use crate::absorption::Lines;
 use crate::inner::is_inner;
 use crate::lines::joined;
+use crate::sieve::Sieve;
 use crate::sizes::Table;
 use formula_store::{FormulaId, Store};
 use formula_tree::{Ids, Shape};
@@ -144,10 +145,10 @@ fn member_lines(
     ensures lines { IfOk result (λ r. AreLines (context_of context) store.new (more_clean_lines (atom_kit (context_of context)) inner each_with_each (of_none each_with_each) (members (map (tree store.old) ids.now))) r.items) }
     ensures kept { Keeps (IsId store.old) (tree store.old) (IsId store.new) (tree store.new) }
 {
-    let mut lines = constant_lines(alloc, each_with_each)?;
+    let mut lines = Sieve::of_constant(alloc, each_with_each)?;
     for id in ids {
         let more = formula_lines(alloc, store, context, inner, *id, table)?;
         lines = joined(alloc, store, context, inner, each_with_each, lines, more)?;
     }
-    Ok(lines)
+    lines.into_lines()
 }

@@ -8,6 +8,8 @@ mod insertion;
 mod lines;
 mod merging;
 mod normal;
+mod paths;
+mod sieve;
 mod sizes;
 
 pub use normal::{cnf, dnf};

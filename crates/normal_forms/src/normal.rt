@@ -40,7 +40,8 @@ use std::alloc::{AllocError, Global};
 /// anything is multiplied out; else `Memory`. The formulas of the store stay.
 ///
 /// The lists are kept clean as they grow, so a formula whose clean form stays small is answered without its plain form being
-/// built. Each list that comes is compared with all that are there: the time is quadratic in the number of lists.
+/// built. Lists within one that comes are looked for along paths of sorted atoms, so that the time is nearly linear in the atoms
+/// of the lists where none is within another.
 pub fn dnf(
     alloc: Global,
     store: &mut Store,

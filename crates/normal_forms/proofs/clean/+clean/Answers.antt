@@ -4,6 +4,7 @@ use Rattle.formula_store.specs.declared.id.FormulaId.{FormulaId}
 use Rattle.formula_store.specs.Nodes.{tree, IsId}
 use Rattle.formula_store.proofs.Marked.{all_at}
 use Rattle.shape_theory.specs.CleanFormsLaws.{IsDistributable}
+use Rattle.normal_forms.specs.Sieves.{swept}
 use Rattle.normal_forms.proofs.Grown.{keeps_then, line_ids_stay}
 use Rattle.normal_forms.proofs.Parts.{member_step}
 use Rattle.normal_forms.proofs.Tables.{told_stays}
@@ -32,7 +33,7 @@ pub member_lines-returns-in_err-more-clause-kept : goal.member_lines-returns-in_
 member_lines-returns-in_err-more-clause-kept t c = keeps_then c.args.store.now c.loop-id.store c.formula_lines.new.store c.loop-id.invariant.kept c.formula_lines.ensures.kept
 
 pub member_lines-joined-requires-clause-lines : goal.member_lines-joined-requires-clause-lines
-member_lines-joined-requires-clause-lines t c = line_ids_stay (context_of c.args.context) c.loop-id.store c.formula_lines.new.store c.formula_lines.ensures.kept c.loop-id.lines.items c.loop-id.invariant.so_far.are
+member_lines-joined-requires-clause-lines t c = line_ids_stay (context_of c.args.context) c.loop-id.store c.formula_lines.new.store c.formula_lines.ensures.kept (swept c.loop-id.lines.lines) c.loop-id.invariant.so_far.are
 
 pub member_lines-returns-in_err-lines-2-clause-kept : goal.member_lines-returns-in_err-lines-2-clause-kept
 member_lines-returns-in_err-lines-2-clause-kept t c =
@@ -47,6 +48,6 @@ member_lines-loop-id-preserved t c =
     let old : IsId c.args.store.now id = record { below = omega arith; are = above.are } in
     record {
       kept = keeps_then c.args.store.now c.loop-id.store c.joined.new.store c.loop-id.invariant.kept (keeps_then c.loop-id.store c.formula_lines.new.store c.joined.new.store c.formula_lines.ensures.kept c.joined.ensures.kept);
-      so_far = member_step (context_of c.args.context) c.args.inner c.args.each_with_each c.args.store.now c.loop-id.store c.formula_lines.new.store c.joined.new.store c.args.ids.now c.loop-id.id-index d c.loop-id.lines.items
-          c.in_ok-more.more.items c.in_ok-lines-2.lines.items c.loop-id-test.true c.loop-id.invariant.kept old c.formula_lines.ensures.kept c.loop-id.invariant.so_far c.in_ok-more.ensures.lines c.in_ok-lines-2.ensures.joined;
+      so_far = member_step (context_of c.args.context) c.args.inner c.args.each_with_each c.args.store.now c.loop-id.store c.formula_lines.new.store c.joined.new.store c.args.ids.now c.loop-id.id-index d (swept c.loop-id.lines.lines)
+          c.in_ok-more.more.items (swept c.in_ok-lines-2.lines.lines) c.loop-id-test.true c.loop-id.invariant.kept old c.formula_lines.ensures.kept c.loop-id.invariant.so_far c.in_ok-more.ensures.lines c.in_ok-lines-2.ensures.joined;
     }

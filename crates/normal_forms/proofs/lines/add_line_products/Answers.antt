@@ -4,6 +4,7 @@ use Rattle.formula_store.specs.declared.id.FormulaId.{FormulaId}
 use Rattle.shape_theory.specs.AtomKit.{atom_kit}
 use Rattle.shape_theory.specs.Lines.{insert_all, add_if}
 use Rattle.normal_forms.specs.Atoms.{AreAtomIds, AreLineIds, atoms, lines, AreLines}
+use Rattle.normal_forms.specs.Sieves.{swept}
 use Rattle.normal_forms.proofs.Grown.{keeps_then, ids_stay}
 use Rattle.normal_forms.proofs.LineSteps.{all_get, line_step}
 use Rattle.normal_forms.proofs.lines.add_line_products.Goals as goal
@@ -28,10 +29,10 @@ loop-other-preserved c =
     let item : List FormulaId = c.other-item.result in
     let items : List (List FormulaId) = c.deref-other-items.result.now in
     let valid = subst (λ (ls : List (List FormulaId)). AreLineIds (context_of c.args.context) c.args.store.now ls) (sym c.deref-other-items.ensures.value) c.requires.others in
-    let more = subst (λ (us : List FormulaId). AreLines (context_of c.args.context) c.add_product.new.store (add_if (atom_kit (context_of c.args.context)) c.args.inner (lines c.loop-other.store c.loop-other.lines.items)
-    (insert_all (atom_kit (context_of c.args.context)) c.args.inner (Some (atoms c.loop-other.store c.args.line.now)) (atoms c.loop-other.store us))) c.add_product.new.lines.items) (c.items.ensures ∙ c.other-item.is) c.in_ok-add_product.ensures.added in
+    let more = subst (λ (us : List FormulaId). AreLines (context_of c.args.context) c.add_product.new.store (add_if (atom_kit (context_of c.args.context)) c.args.inner (lines c.loop-other.store (swept c.loop-other.lines.lines))
+    (insert_all (atom_kit (context_of c.args.context)) c.args.inner (Some (atoms c.loop-other.store c.args.line.now)) (atoms c.loop-other.store us))) (swept c.add_product.new.lines.lines)) (c.items.ensures ∙ c.other-item.is) c.in_ok-add_product.ensures.added in
     record {
       kept = keeps_then c.args.store.now c.loop-other.store c.add_product.new.store c.loop-other.invariant.kept c.add_product.ensures.kept;
-      so_far = line_step (context_of c.args.context) c.args.inner c.args.store.now c.loop-other.store c.add_product.new.store c.loop-other.invariant.kept (lines c.args.store.now c.args.lines.now.items) c.args.line.now items
-          c.loop-other.other-index item c.loop-other.lines.items c.add_product.new.lines.items c.loop-other-test.true c.requires.line valid c.loop-other.invariant.so_far more;
+      so_far = line_step (context_of c.args.context) c.args.inner c.args.store.now c.loop-other.store c.add_product.new.store c.loop-other.invariant.kept (lines c.args.store.now (swept c.args.lines.now.lines)) c.args.line.now items
+          c.loop-other.other-index item (swept c.loop-other.lines.lines) (swept c.add_product.new.lines.lines) c.loop-other-test.true c.requires.line valid c.loop-other.invariant.so_far more;
     }
