@@ -98,7 +98,8 @@ pub(crate) fn branches_of<R: Threads + Sync>(
         workers: 2,
     };
     let mut budget = Budget::of_limit(LIMIT);
-    block_branches(rt, &work, &mut budget, store, matrix, block, &OpenGate).ok()
+    let gate = OpenGate::new();
+    block_branches(rt, &work, &mut budget, store, matrix, block, &gate).ok()
 }
 
 /// The formulas of the branches, each with its test points.

@@ -129,7 +129,8 @@ fn told<R: Threads + Sync>(rt: &R, alloc: Global, row: &Row) -> Option<String> {
         nodes: row.nodes,
         workers: 2,
     };
-    match eliminate(rt, alloc, &mut store, context, id, &[], limits, &OpenGate) {
+    let gate = OpenGate::new();
+    match eliminate(rt, alloc, &mut store, context, id, &[], limits, &gate) {
         Ok(case_tree) => tree_text(alloc, &mut store, &case_tree),
         Err(error) => format!(in alloc; "{error}").ok(),
     }

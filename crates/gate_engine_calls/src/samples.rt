@@ -67,7 +67,8 @@ fn sample_of<R: Threads + Sync>(
     let mut store = Store::new(alloc);
     let id = normal_id(alloc, context, statement, &mut store)?;
     let origin = Values::new(alloc, 1);
-    let engine = engine(rt, alloc, context);
+    let gate = OpenGate::new();
+    let engine = engine(rt, alloc, context, &gate);
     engine.sample(&mut store, id, &origin).ok()
 }
 
@@ -125,13 +126,19 @@ fn holds<R: Threads + Sync>(
     let mut store = Store::new(alloc);
     let id = normal_id(alloc, context, statement, &mut store)?;
     let origin = Values::new(alloc, 1);
-    let engine = engine(rt, alloc, context);
+    let gate = OpenGate::new();
+    let engine = engine(rt, alloc, context, &gate);
     let truth = engine.truth(&mut store, id, &origin).ok()?;
     truth.to_string(alloc).ok()
 }
 
 /// An engine of two threads.
-fn engine<R: Threads + Sync>(rt: &R, alloc: Global, context: Context) -> Engine<'_, R, OpenGate>
+fn engine<'a, R: Threads + Sync>(
+    rt: &'a R,
+    alloc: Global,
+    context: Context,
+    gate: &'a OpenGate,
+) -> Engine<'a, R, OpenGate>
     ensures context { result.context ≡ context }
     ensures workers { 1 ≤ result.limits.workers }
 {
@@ -144,6 +151,6 @@ fn engine<R: Threads + Sync>(rt: &R, alloc: Global, context: Context) -> Engine<
         alloc,
         context,
         limits,
-        gate: &OpenGate,
+        gate,
     }
 }

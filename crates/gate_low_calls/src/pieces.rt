@@ -49,7 +49,7 @@ pub(crate) fn told<R: Threads + Sync>(
         count: pieces,
         stops,
     };
-    match fan_out(rt, alloc, &worker, pieces, workers.max(1), &OpenGate) {
+    match fan_out(rt, alloc, &worker, pieces, workers.max(1), &OpenGate::new()) {
         Ok(outs) => text_of(alloc, &outs).ok(),
         Err(FanError::Piece { piece, .. }) => format!(in alloc; "stops at {piece}").ok(),
         Err(FanError::Memory) => None,
@@ -83,6 +83,10 @@ impl Gate for Meeting {
             1 => self.meet(&self.second, &self.first),
             _ => {}
         }
+    }
+
+    fn shares(&self, _nodes: u64) -> bool {
+        true
     }
 }
 

@@ -109,7 +109,7 @@ fn put_at_both_at_once<R: Threads + Sync>(rt: &R, alloc: Global) -> Option<Strin
         id,
         &points,
         2,
-        &OpenGate,
+        &OpenGate::new(),
     )
     .ok()?;
     let high = deltas.pop()?;

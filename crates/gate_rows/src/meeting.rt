@@ -2,7 +2,7 @@
 
 use program_meaning::Status;
 use qe_io::{MemorySink, MemorySource};
-use qe_parallel::Gate;
+use qe_parallel::{Gate, OpenGate};
 use redlog_run::run_gated;
 use std::alloc::AllocError;
 use std::sync::atomic::{AtomicBool, Ordering};
@@ -23,9 +23,10 @@ const WORD: &str = "--workers=2";
 /// How often a piece looks whether the other one has come.
 const LOOKS: u32 = 100_000_000;
 
-/// A gate at which the pieces 0 and 1 wait for each other, for a while.
+/// A gate at which the pieces 0 and 1 wait for each other, for a while. It shares out what that of a run does.
 #[derive(Drop)]
 struct Meeting {
+    open: OpenGate,
     first: AtomicBool,
     second: AtomicBool,
     missed: AtomicBool,
@@ -38,6 +39,10 @@ impl Gate for Meeting {
             1 => self.meet(&self.second, &self.first),
             _ => {}
         }
+    }
+
+    fn shares(&self, nodes: u64) -> bool {
+        self.open.shares(nodes)
     }
 }
 
@@ -67,6 +72,7 @@ pub(crate) fn at_once<R: Threads + Sync + AllocGlobal>(
 ) -> Result<bool, AllocError> {
     let alloc = rt.alloc();
     let gate = Meeting {
+        open: OpenGate::new(),
         first: AtomicBool::new(false),
         second: AtomicBool::new(false),
         missed: AtomicBool::new(false),

@@ -44,7 +44,7 @@ pub fn run<R: Threads + Sync, S: Source, K: Sink>(
         (ends (S.left source.old) (S.faults source.old) (K.wrote sink.old) (K.faults sink.old))
         (ends (S.left source.new) (S.faults source.new) (K.wrote sink.new) (K.faults sink.new)) result }
 {
-    run_gated(rt, alloc, words, source, sink, &OpenGate)
+    run_gated(rt, alloc, words, source, sink, &OpenGate::new())
 }
 
 /// The same, where the gate is passed before each piece of an elimination that is shared out to threads.
