@@ -1,7 +1,8 @@
 # make look               answers crates/redlog/stdin, or SCRIPT=file, by the code without its proofs
 # make                    builds the proved program and leaves it at bin/redlog
 # make test               proves everything, and runs the tests and the edits that the proofs must refuse
-# make install PREFIX=..  copies the program, its manual page, its documents and examples, its Vim files and the clients to PREFIX
+# make book               writes the book of the proof, linked pages from book/index.html on (Python 3)
+# make install PREFIX=..  copies the program, its manual page, its documents, book and examples, its Vim files and the clients to PREFIX
 # make uninstall          takes them away again
 # make deb                builds a package of these, which dpkg -i installs
 
@@ -19,7 +20,7 @@ CLIENTS = $(shell find clients -type f ! -path '*/__pycache__/*' ! -path '*/.*' 
 COMMANDS = python/redlog-py smtlib/redlog-smt2 batch/redlog-batch
 PACKAGE = bin/redlog_$(VERSION)_amd64
 
-.PHONY: all look test install uninstall deb clean
+.PHONY: all look test book install uninstall deb clean
 
 all: bin/redlog
 
@@ -38,7 +39,10 @@ look:
 test:
 	bash .ci/run
 
-install: $(PROGRAM)
+book:
+	bench/book book
+
+install: $(PROGRAM) book
 	install -D -m 755 $(PROGRAM) $(DESTDIR)$(PREFIX)/bin/redlog
 	install -D -m 644 man/redlog.1 $(DESTDIR)$(PREFIX)/share/man/man1/redlog.1
 	install -d $(DESTDIR)$(PREFIX)/share/doc/redlog/docs $(DESTDIR)$(PREFIX)/share/doc/redlog/examples
@@ -46,6 +50,8 @@ install: $(PROGRAM)
 	install -m 644 man/copyright $(DESTDIR)$(PREFIX)/share/doc/redlog
 	install -m 644 $(PAGES) $(DESTDIR)$(PREFIX)/share/doc/redlog/docs
 	install -m 644 $(EXAMPLES) $(DESTDIR)$(PREFIX)/share/doc/redlog/examples
+	install -d $(DESTDIR)$(PREFIX)/share/doc/redlog/book
+	install -m 644 book/* $(DESTDIR)$(PREFIX)/share/doc/redlog/book
 	install -D -m 644 editors/vim/syntax/redlog.vim $(DESTDIR)$(PREFIX)/share/vim/vimfiles/syntax/redlog.vim
 	install -D -m 644 editors/vim/ftdetect/redlog.vim $(DESTDIR)$(PREFIX)/share/vim/vimfiles/ftdetect/redlog.vim
 	install -D -m 644 clients/why3/redlog.drv $(DESTDIR)$(PREFIX)/share/redlog/why3/redlog.drv
@@ -71,4 +77,4 @@ deb: $(PROGRAM)
 	dpkg-deb --root-owner-group --build $(PACKAGE) $(PACKAGE).deb
 
 clean:
-	rm -rf bin crates/*/out
+	rm -rf bin book crates/*/out

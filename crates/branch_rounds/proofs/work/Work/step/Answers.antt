@@ -78,7 +78,7 @@ returns-in-Err-pay-clause-direct g c x s d =
     subst (λ (l : List VarId). IsByRule w.context f l c.most-most.result c.in-Ok.choice) c.left.ensures (subst (λ (i : FormulaId). IsByRule w.context (tree c.args.store.now i) c.left.result.now c.most-most.result c.in-Ok.choice) c.formula-formula.ensures c.in-Ok.ensures.rule) in
     let alone = chosen_alone w f b.left x s c.args.budget.now.nodes d c.most-most.result c.in-Ok.choice rule in
     let one : length c.in-Ok.choice.points.items ≡ 1 = one_point w f b.left x s c.args.budget.now.nodes d c.in-Ok.choice alone in
-    let point : c.len-2.result ≡ 1 = omega (arith, one, c.len-2.ensures) in
+    let point : c.len.result ≡ 1 = omega (arith, one, c.len.ensures) in
     let same : nodes (tree c.args.store.now c.formula-formula.result) ≡ nodes f = ap (λ (i : FormulaId). nodes (tree c.args.store.now i)) c.formula-formula.ensures in
     let counted = c.facts-nodes.ensures.facts.nodes_are in
     let cheap : c.facts-nodes.result.nodes ≤ nodes f = omega (arith, same, counted) in
