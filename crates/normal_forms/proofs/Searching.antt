@@ -86,47 +86,47 @@ none_left [] (suc i) l = refl
 none_left (v ∷ vs) zero l = absurd (omega arith)
 none_left (v ∷ vs) (suc i) l = none_left vs i (omega arith)
 
--- ---- what is open after a visit
+-- ---- what waits after a visit
 
-module _ (p : Paths) (atoms : List FormulaId) (visit : Visit) (open_before : List Visit) where
-  pub without : (CanGoOn p atoms visit → ⊥) → SomeOf (CanGoOn p atoms) (open_before ++ visit ∷ []) → SomeOf (CanGoOn p atoms) open_before
-  without n h = split (some_or_last (CanGoOn p atoms) open_before visit h)
+module _ (p : Paths) (atoms : List FormulaId) (visit : Visit) (before : List Visit) where
+  pub without : (CanGoOn p atoms visit → ⊥) → SomeOf (CanGoOn p atoms) (before ++ visit ∷ []) → SomeOf (CanGoOn p atoms) before
+  without n h = split (some_or_last (CanGoOn p atoms) before visit h)
     where
-      split : SomeOf (CanGoOn p atoms) open_before ⊎ CanGoOn p atoms visit → SomeOf (CanGoOn p atoms) open_before
+      split : SomeOf (CanGoOn p atoms) before ⊎ CanGoOn p atoms visit → SomeOf (CanGoOn p atoms) before
       split (inl i) = i
       split (inr g) = absurd (n g)
 
   module _ (x : FormulaId) (rises : Rises atoms) (inside : visit.from < length atoms) (is : x ≡ get_or atoms visit.from x) (none : IsSome (place_at p visit.place).list → ⊥) where
-    pub past_it : goes_up_to (place_at p visit.place) x ≡ false → SomeOf (CanGoOn p atoms) (open_before ++ visit ∷ []) → SomeOf (CanGoOn p atoms) open_before
+    pub past_it : goes_up_to (place_at p visit.place) x ≡ false → SomeOf (CanGoOn p atoms) (before ++ visit ∷ []) → SomeOf (CanGoOn p atoms) before
     past_it g = let k = left_at atoms visit.from x x rises inside is in without (passes p atoms visit x k.0 k.1 k.3 none g)
 
-    pub onward_by_none : next_from p visit.place x ≡ None → SomeOf (CanGoOn p atoms) (open_before ++ visit ∷ []) → SomeOf (CanGoOn p atoms) (open_before ++ (record { place = visit.place; from = visit.from + 1 }) ∷ [])
-    onward_by_none e h = split (some_or_last (CanGoOn p atoms) open_before visit h)
+    pub onward_by_none : next_from p visit.place x ≡ None → SomeOf (CanGoOn p atoms) (before ++ visit ∷ []) → SomeOf (CanGoOn p atoms) (before ++ (record { place = visit.place; from = visit.from + 1 }) ∷ [])
+    onward_by_none e h = split (some_or_last (CanGoOn p atoms) before visit h)
       where
         by : CanGoOn p atoms (record { place = visit.place; from = visit.from + 1 }) ⊎ ((m : ℕ) × (next_from p visit.place x ≡ Some m) × CanGoOn p atoms (record { place = m; from = visit.from + 1 }))
             → CanGoOn p atoms (record { place = visit.place; from = visit.from + 1 })
         by (inl g) = g
         by (inr t) = let f : None ≡ Some t.0 = sym e ∙ t.1 in absurd (cc (f))
 
-        split : SomeOf (CanGoOn p atoms) open_before ⊎ CanGoOn p atoms visit → SomeOf (CanGoOn p atoms) (open_before ++ (record { place = visit.place; from = visit.from + 1 }) ∷ [])
-        split (inl i) = some_front (CanGoOn p atoms) open_before ((record { place = visit.place; from = visit.from + 1 }) ∷ []) i
-        split (inr g) = let k = left_at atoms visit.from x x rises inside is in last_has (CanGoOn p atoms) open_before (record { place = visit.place; from = visit.from + 1 }) (by (goes_on p atoms visit x k.0 k.1 k.3 none k.2 g))
+        split : SomeOf (CanGoOn p atoms) before ⊎ CanGoOn p atoms visit → SomeOf (CanGoOn p atoms) (before ++ (record { place = visit.place; from = visit.from + 1 }) ∷ [])
+        split (inl i) = some_front (CanGoOn p atoms) before ((record { place = visit.place; from = visit.from + 1 }) ∷ []) i
+        split (inr g) = let k = left_at atoms visit.from x x rises inside is in last_has (CanGoOn p atoms) before (record { place = visit.place; from = visit.from + 1 }) (by (goes_on p atoms visit x k.0 k.1 k.3 none k.2 g))
 
-    pub onward_by : (next : ℕ) → next_from p visit.place x ≡ Some next → SomeOf (CanGoOn p atoms) (open_before ++ visit ∷ [])
-        → SomeOf (CanGoOn p atoms) ((open_before ++ (record { place = visit.place; from = visit.from + 1 }) ∷ []) ++ (record { place = next; from = visit.from + 1 }) ∷ [])
-    onward_by next e h = split (some_or_last (CanGoOn p atoms) open_before visit h)
+    pub onward_by : (next : ℕ) → next_from p visit.place x ≡ Some next → SomeOf (CanGoOn p atoms) (before ++ visit ∷ [])
+        → SomeOf (CanGoOn p atoms) ((before ++ (record { place = visit.place; from = visit.from + 1 }) ∷ []) ++ (record { place = next; from = visit.from + 1 }) ∷ [])
+    onward_by next e h = split (some_or_last (CanGoOn p atoms) before visit h)
       where
         by : CanGoOn p atoms (record { place = visit.place; from = visit.from + 1 }) ⊎ ((m : ℕ) × (next_from p visit.place x ≡ Some m) × CanGoOn p atoms (record { place = m; from = visit.from + 1 }))
-            → SomeOf (CanGoOn p atoms) ((open_before ++ (record { place = visit.place; from = visit.from + 1 }) ∷ []) ++ (record { place = next; from = visit.from + 1 }) ∷ [])
-        by (inl g) = some_front (CanGoOn p atoms) (open_before ++ (record { place = visit.place; from = visit.from + 1 }) ∷ []) ((record { place = next; from = visit.from + 1 }) ∷ [])
-            (last_has (CanGoOn p atoms) open_before (record { place = visit.place; from = visit.from + 1 }) g)
+            → SomeOf (CanGoOn p atoms) ((before ++ (record { place = visit.place; from = visit.from + 1 }) ∷ []) ++ (record { place = next; from = visit.from + 1 }) ∷ [])
+        by (inl g) = some_front (CanGoOn p atoms) (before ++ (record { place = visit.place; from = visit.from + 1 }) ∷ []) ((record { place = next; from = visit.from + 1 }) ∷ [])
+            (last_has (CanGoOn p atoms) before (record { place = visit.place; from = visit.from + 1 }) g)
         by (inr t) =
             let f : Some t.0 ≡ Some next = sym t.1 ∙ e in
             let same : t.0 ≡ next = cc (f) in
-            last_has (CanGoOn p atoms) (open_before ++ (record { place = visit.place; from = visit.from + 1 }) ∷ []) (record { place = next; from = visit.from + 1 })
+            last_has (CanGoOn p atoms) (before ++ (record { place = visit.place; from = visit.from + 1 }) ∷ []) (record { place = next; from = visit.from + 1 })
             (subst (λ (m : ℕ). CanGoOn p atoms (record { place = m; from = visit.from + 1 })) same t.2)
 
-        split : SomeOf (CanGoOn p atoms) open_before ⊎ CanGoOn p atoms visit → SomeOf (CanGoOn p atoms) ((open_before ++ (record { place = visit.place; from = visit.from + 1 }) ∷ []) ++ (record { place = next; from = visit.from + 1 }) ∷ [])
-        split (inl i) = some_front (CanGoOn p atoms) (open_before ++ (record { place = visit.place; from = visit.from + 1 }) ∷ []) ((record { place = next; from = visit.from + 1 }) ∷ [])
-            (some_front (CanGoOn p atoms) open_before ((record { place = visit.place; from = visit.from + 1 }) ∷ []) i)
+        split : SomeOf (CanGoOn p atoms) before ⊎ CanGoOn p atoms visit → SomeOf (CanGoOn p atoms) ((before ++ (record { place = visit.place; from = visit.from + 1 }) ∷ []) ++ (record { place = next; from = visit.from + 1 }) ∷ [])
+        split (inl i) = some_front (CanGoOn p atoms) (before ++ (record { place = visit.place; from = visit.from + 1 }) ∷ []) ((record { place = next; from = visit.from + 1 }) ∷ [])
+            (some_front (CanGoOn p atoms) before ((record { place = visit.place; from = visit.from + 1 }) ∷ []) i)
         split (inr g) = let k = left_at atoms visit.from x x rises inside is in by (goes_on p atoms visit x k.0 k.1 k.3 none k.2 g)

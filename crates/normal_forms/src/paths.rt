@@ -151,27 +151,27 @@ impl Paths {
             place: BEGIN,
             from: 0,
         };
-        let mut open = vec![in alloc; begin]?;
+        let mut waiting = vec![in alloc; begin]?;
         for _ in 0..visits {
-            let Some(visit) = open.pop() else {
+            let Some(visit) = waiting.pop() else {
                 return Ok(Found::Nothing);
             };
-            if let Some(list) = self.visit(atoms, visit, &mut open)? {
+            if let Some(list) = self.visit(atoms, visit, &mut waiting)? {
                 return Ok(Found::List(list));
             }
         }
         Ok(Found::Unknown)
     }
 
-    // The list that ends at a place that is visited; where none does, the visits from there are open.
+    // The list that ends at a place that is visited; where none does, those from there wait.
     fn visit(
         &self,
         atoms: &[FormulaId],
         visit: Visit,
-        open: &mut Vec<Visit>,
+        waiting: &mut Vec<Visit>,
     ) -> Result<Option<usize>, AllocError>
         requires { Rises atoms.now }
-        ensures { IfOk result (λ list. list ≡ None → SomeOf (CanGoOn self.now atoms.now) (open.old.items ++ visit ∷ []) → SomeOf (CanGoOn self.now atoms.now) open.new.items) }
+        ensures { IfOk result (λ list. list ≡ None → SomeOf (CanGoOn self.now atoms.now) (waiting.old.items ++ visit ∷ []) → SomeOf (CanGoOn self.now atoms.now) waiting.new.items) }
     {
         let place = self.place(visit.place);
         if place.list.is_some() {
@@ -184,12 +184,12 @@ impl Paths {
             return Ok(None);
         }
         let from = visit.from + 1;
-        open.push(Visit {
+        waiting.push(Visit {
             place: visit.place,
             from,
         })?;
         if let Some(next) = self.steps.get(&(visit.place, *atom)) {
-            open.push(Visit { place: *next, from })?;
+            waiting.push(Visit { place: *next, from })?;
         }
         Ok(None)
     }
