@@ -2,7 +2,7 @@
 # make                    builds the proved program and leaves it at bin/redlog
 # make test               proves everything, and runs the tests and the edits that the proofs must refuse
 # make book               writes the book of the proof, linked pages from book/index.html on (Python 3)
-# make install PREFIX=..  copies the program, its manual page, its documents, book and examples, its Vim files and the clients to PREFIX
+# make install PREFIX=..  copies the program, redlog-shell, bash's completion, its manual page, its documents, book and examples, its Vim files and the clients to PREFIX
 # make uninstall          takes them away again
 # make deb                builds a package of these, which dpkg -i installs
 
@@ -50,6 +50,12 @@ install: $(PROGRAM) book
 	install -m 644 man/copyright $(DESTDIR)$(PREFIX)/share/doc/redlog
 	install -m 644 $(PAGES) $(DESTDIR)$(PREFIX)/share/doc/redlog/docs
 	install -m 644 $(EXAMPLES) $(DESTDIR)$(PREFIX)/share/doc/redlog/examples
+	install -d $(DESTDIR)$(PREFIX)/bin
+	sed 's/@VERSION@/$(VERSION)/' shell/redlog-shell > $(DESTDIR)$(PREFIX)/bin/redlog-shell
+	chmod 755 $(DESTDIR)$(PREFIX)/bin/redlog-shell
+	install -D -m 644 shell/words $(DESTDIR)$(PREFIX)/share/redlog/words
+	install -D -m 644 shell/completion.bash $(DESTDIR)$(PREFIX)/share/bash-completion/completions/redlog
+	ln -sf redlog $(DESTDIR)$(PREFIX)/share/bash-completion/completions/redlog-shell
 	install -d $(DESTDIR)$(PREFIX)/share/doc/redlog/book
 	install -m 644 book/* $(DESTDIR)$(PREFIX)/share/doc/redlog/book
 	install -D -m 644 editors/vim/syntax/redlog.vim $(DESTDIR)$(PREFIX)/share/vim/vimfiles/syntax/redlog.vim
@@ -63,7 +69,8 @@ install: $(PROGRAM) book
 	for file in $(COMMANDS); do ln -sf ../share/redlog/clients/$$file $(DESTDIR)$(PREFIX)/bin/$${file##*/} || exit 1; done
 
 uninstall:
-	rm -f $(DESTDIR)$(PREFIX)/bin/redlog $(DESTDIR)$(PREFIX)/share/man/man1/redlog.1
+	rm -f $(DESTDIR)$(PREFIX)/bin/redlog $(DESTDIR)$(PREFIX)/bin/redlog-shell $(DESTDIR)$(PREFIX)/share/man/man1/redlog.1
+	rm -f $(addprefix $(DESTDIR)$(PREFIX)/share/bash-completion/completions/,redlog redlog-shell)
 	rm -f $(foreach file,$(COMMANDS),$(DESTDIR)$(PREFIX)/bin/$(notdir $(file)))
 	rm -rf $(DESTDIR)$(PREFIX)/share/doc/redlog $(DESTDIR)$(PREFIX)/share/redlog
 	rm -f $(DESTDIR)$(PREFIX)/share/vim/vimfiles/syntax/redlog.vim $(DESTDIR)$(PREFIX)/share/vim/vimfiles/ftdetect/redlog.vim

@@ -248,7 +248,8 @@ class Session:
         limit = seconds if seconds is not None else self.seconds
         until = None if limit is None else time.monotonic() + limit
         try:
-            self._send(f"{text}\n{MARKER};\n")
+            # Where `rl` stands in a read each line is written by itself, so a note has come before the line of the marker.
+            self._send(f"{text}\n% rl\n{MARKER};\n")
             line: str | None = self._line(until)
             if is_shown or line != MARKER:
                 marker = self._line(until)

@@ -1,7 +1,9 @@
 //! Both ends of a run: a source of a script that gives so many bytes in a read, and a sink with so much room, of which some calls fail.
 
+use crate::collected::Collected;
 use qe_io::{MemorySink, MemorySource};
-use redlog_run::run;
+use qe_parallel::OpenGate;
+use redlog_run::{Team, run_told};
 use std::alloc::{AllocError, Global};
 use std::thread::Threads;
 
@@ -23,6 +25,8 @@ pub(crate) struct Ends {
 pub(crate) struct Answer {
     pub(crate) lines: Vec<u8>,
     pub(crate) status: u8,
+    /// The notes on its refusals.
+    pub(crate) notes: String,
 }
 
 impl Ends {
@@ -66,10 +70,17 @@ impl Ends {
         let Ok(mut sink) = MemorySink::new(alloc, self.room, self.writes.clone()?) else {
             return Err(AllocError);
         };
-        let status = run(rt, alloc, words, &mut source, &mut sink);
+        let notes = Collected::new(alloc);
+        let team = Team {
+            rt,
+            gate: &OpenGate::new(),
+            teller: &notes,
+        };
+        let status = run_told(&team, alloc, words, &mut source, &mut sink);
         Ok(Answer {
             lines: sink.written().to_vec(alloc)?,
             status: status.number(),
+            notes: notes.text(),
         })
     }
 }
@@ -77,6 +88,8 @@ impl Ends {
 impl Answer {
     /// Whether both are the same.
     pub(crate) fn is_same(&self, other: &Answer) -> bool {
-        self.status == other.status && self.lines.as_slice() == other.lines.as_slice()
+        self.status == other.status
+            && self.lines.as_slice() == other.lines.as_slice()
+            && self.notes.as_str() == other.notes.as_str()
     }
 }

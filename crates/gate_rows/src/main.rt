@@ -2,6 +2,7 @@
 //! Then it is the program itself, under the words of its command line, on a script that is refused under them. The gate runs it.
 #![tactic(auto)]
 
+mod collected;
 mod ends;
 mod meeting;
 mod row;
@@ -10,7 +11,7 @@ mod text;
 use crate::meeting::{ELIMINATION, GRID, at_once};
 use crate::row::Row;
 use program_meaning::Status;
-use redlog_run::run_process;
+use redlog_run::{Origin, run_process};
 use std::fs::Files;
 use std::io;
 use std::process::ExitCode;
@@ -31,7 +32,7 @@ struct Tally {
 
 fn main(rt: HostRuntime) -> ExitCode {
     match answer_rows(&rt) {
-        Ok(()) => run_process(&rt, LAST, rt.stdout()),
+        Ok(()) => run_process(&rt, LAST, rt.stdout(), Origin::Stream),
         Err(_) => ExitCode::from(NOT_TOLD),
     }
 }

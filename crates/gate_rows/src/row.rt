@@ -30,6 +30,7 @@ pub(crate) struct Row {
     ends: Ends,
     tries: Vec<Try>,
     lines: Vec<u8>,
+    notes: Vec<u8>,
 }
 
 impl Row {
@@ -41,11 +42,12 @@ impl Row {
             ends: Ends::new(alloc),
             tries: Vec::new(alloc),
             lines: Vec::new(alloc),
+            notes: Vec::new(alloc),
         }
     }
 
-    /// Takes a line of the row: a word after `$ `, a part of the script after `>` or `< `, what else is so after `& `, a remark
-    /// after `#`, or an expected line. A line that is not of these forms is one that no script is answered with.
+    /// Takes a line of the row: a word after `$ `, a part of the script after `>` or `< `, what else is so after `& `, a note
+    /// after `! `, a remark after `#`, or an expected line. A line that is not of these forms is one that no script is answered with.
     pub(crate) fn take<R: Files + AllocGlobal>(&mut self, rt: &R, line: &str) -> io::Result<()> {
         let alloc = rt.alloc();
         let is_taken = if let Some(word) = line.strip_prefix("$ ") {
@@ -61,6 +63,9 @@ impl Row {
             add_numbered(alloc, &mut self.script, range)?
         } else if let Some(name) = line.strip_prefix("< ") {
             self.take_files(rt, name)?;
+            true
+        } else if let Some(note) = line.strip_prefix("! ") {
+            add_line(&mut self.notes, note)?;
             true
         } else if let Some(said) = line.strip_prefix("& ") {
             self.take_said(said)?
@@ -175,14 +180,16 @@ impl Row {
         let number = format!(in alloc; "{found}")?;
         let lines = told(alloc, &answer.lines)?;
         let wanted = &self.lines[..self.lines.len().min(self.ends.room)];
-        if lines.as_slice() == wanted && number.as_str() == status {
+        let notes = answer.notes.as_str();
+        let is_noted = self.notes.is_empty() || notes.as_bytes() == self.notes.as_slice();
+        if lines.as_slice() == wanted && number.as_str() == status && is_noted {
             return Ok(None);
         }
         let script = told(alloc, &self.script)?;
         let script = String::from_utf8_lossy(alloc, &script)?;
         let lines = String::from_utf8_lossy(alloc, &lines)?;
         Ok(Some(format!(in alloc;
-            "{script}answered:\n{lines}status {found}, and {status} is expected"
+            "{script}answered:\n{lines}told:\n{notes}status {found}, and {status} is expected"
         )?))
     }
 
@@ -196,6 +203,7 @@ impl Row {
         let silent = Answer {
             lines: Vec::new(alloc),
             status: Status::ReadFault.number(),
+            notes: String::new(alloc),
         };
         for read in 0..count {
             let ends = self.ends.failing_at(read)?;

@@ -1,9 +1,15 @@
 //! Reads a script of Redlog's language from standard input and answers its statements on standard output.
 #![tactic(auto)]
 
-use redlog_run::run_process;
+use redlog_run::{Origin, run_process};
+use std::io::IsTerminal;
 use std::process::ExitCode;
 
 fn main(rt: HostRuntime) -> ExitCode {
-    run_process(&rt, rt.stdin(), rt.stdout())
+    let origin = if rt.stdin().is_terminal() && rt.stderr().is_terminal() {
+        Origin::Terminal
+    } else {
+        Origin::Stream
+    };
+    run_process(&rt, rt.stdin(), rt.stdout(), origin)
 }

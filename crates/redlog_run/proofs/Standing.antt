@@ -11,6 +11,7 @@ use Rattle.program_meaning.specs.State.{State, first_state}
 use Rattle.session_commands.specs.Seen.{Seen, state_in}
 use Rattle.redlog_run.specs.declared.answer.Answers.{Answers}
 use Rattle.redlog_run.specs.declared.answer.Answering.{Answering}
+use Rattle.redlog_run.specs.declared.lines.Lines.{Lines}
 use Rattle.program_meaning.specs.declared.line.StatementError.TheVariants as error
 use Rattle.program_meaning.specs.Words.{word_of}
 use Rattle.program_meaning.specs.Lines.{refusal_line}
@@ -99,8 +100,8 @@ module _ (limit : ℕ) (bytes written : List ℕ) (a : Answering) (h : Stands li
       → Adds (state_in a.session) limit (drop cut.offset bytes) cut.offset e (state_in session) (written ++ a.answers.lines.items) a.answers.refused (written ++ answers.lines.items) answers.refused
   as_known e same adds = subst (λ x. Adds (state_in a.session) limit (drop cut.offset bytes) cut.offset x (state_in session) (written ++ a.answers.lines.items) a.answers.refused (written ++ answers.lines.items) answers.refused) same adds
 
-  cut_by : (fed : Held) → CutsOff bytes h.to cut → Follows bytes (length bytes) fed → (e : Bool) → b ≡ e → StandsOrEnds e limit bytes (written ++ answers.lines.items) (record { alloc = a.alloc; session = session; splitter = fed; answers = answers })
-  cut_by fed c f true e = record {
+  cut_by : (fed : Held) (counted : Lines) → CutsOff bytes h.to cut → Follows bytes (length bytes) fed → (e : Bool) → b ≡ e → StandsOrEnds e limit bytes (written ++ answers.lines.items) (record { alloc = a.alloc; session = session; splitter = fed; answers = answers; lines = counted })
+  cut_by fed counted c f true e = record {
     ends = run_stops limit bytes h.to (state_in a.session) (written ++ a.answers.lines.items) a.answers.refused h.runs cut.offset c.begins (state_in session) (written ++ answers.lines.items) answers.refused c.piece (as_known true e (added c.bytes));
     runs = record {
       to = h.to;
@@ -110,7 +111,7 @@ module _ (limit : ℕ) (bytes written : List ℕ) (a : Answering) (h : Stands li
       runs = subst (λ xs. RunsTo limit bytes h.to (state_in a.session) xs a.answers.refused) (sym (no_line_at_end (as_known true e (added c.bytes)))) h.runs;
     };
   }
-  cut_by fed c f false e = record {
+  cut_by fed counted c f false e = record {
     to = length bytes;
     follows = f;
     runs = runs_on limit bytes h.to (state_in a.session) (written ++ a.answers.lines.items) a.answers.refused h.runs cut.offset c.begins (state_in session) (written ++ answers.lines.items) answers.refused c.piece
@@ -119,8 +120,8 @@ module _ (limit : ℕ) (bytes written : List ℕ) (a : Answering) (h : Stands li
   }
 
   -- a cut was answered
-  pub stands_cut : (fed : Held) → CutsOff bytes h.to cut → Follows bytes (length bytes) fed → StandsOrEnds b limit bytes (written ++ answers.lines.items) (record { alloc = a.alloc; session = session; splitter = fed; answers = answers })
-  stands_cut fed c f = cut_by fed c f b refl
+  pub stands_cut : (fed : Held) (counted : Lines) → CutsOff bytes h.to cut → Follows bytes (length bytes) fed → StandsOrEnds b limit bytes (written ++ answers.lines.items) (record { alloc = a.alloc; session = session; splitter = fed; answers = answers; lines = counted })
+  stands_cut fed counted c f = cut_by fed counted c f b refl
 
   -- the last cut was answered
   pub last_cut : IsLast bytes h.to cut → RunOf limit bytes (written ++ answers.lines.items) answers.refused

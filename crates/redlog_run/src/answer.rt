@@ -7,8 +7,10 @@ ghost use Rattle.program_meaning.specs.Run.{RunOf};
 ghost use Rattle.redlog_run.specs.Adding.{Adds};
 ghost use Rattle.redlog_run.specs.Script.{Stands, StandsOrEnds};
 
+use crate::lines::{Ending, Lines};
 use crate::team::Team;
 use program_meaning::{Line, StatementError};
+use qe_io::{Cause, Place, Refusal, Teller};
 use qe_parallel::Gate;
 use redlog_tokens::{Cut, Splitter};
 use session_commands::Session;
@@ -30,6 +32,7 @@ pub struct Answering {
     pub session: Session,
     pub splitter: Splitter,
     pub answers: Answers,
+    pub lines: Lines,
 }
 
 /// A step: how many bytes it took, and whether a statement ended the script.
@@ -55,12 +58,14 @@ pub fn begin(alloc: Global, limits: Limits) -> Answering
             lines: Vec::new(alloc),
             refused: false,
         },
+        lines: Lines::new(),
     }
 }
 
-/// Takes bytes through the first end mark, or all of them, and adds what the piece that ends there is answered with.
-pub fn answer_next<R: Threads + Sync, G: Gate + Sync>(
-    team: &Team<'_, R, G>,
+/// Takes bytes through the first end mark, or all of them, and adds what the piece that ends there is answered with. Of a refusal
+/// is told too.
+pub fn answer_next<R: Threads + Sync, G: Gate + Sync, T: Teller>(
+    team: &Team<'_, R, G, T>,
     answering: &mut Answering,
     bytes: &[u8],
 ) -> Result<Step, AllocError>
@@ -74,14 +79,22 @@ pub fn answer_next<R: Threads + Sync, G: Gate + Sync>(
     ensures count { IfOk result (λ step. answering.new.splitter.fed ≡ answering.old.splitter.fed + step.taken) }
 {
     let taken = answering.splitter.feed(bytes)?;
+    let before = answering.lines;
     let Some(cut) = answering.splitter.next() else {
+        answering.lines.leave(&bytes[..taken]);
         return Ok(Step { taken, ends: false });
+    };
+    answering.lines.end(&bytes[..taken]);
+    let ending = Ending {
+        before: &before,
+        bytes: &bytes[..taken],
     };
     let ends = answer_cut(
         team,
         answering.alloc,
         &mut answering.session,
         &cut,
+        &ending,
         &mut answering.answers,
     )?;
     answering.splitter.reuse(cut);
@@ -89,8 +102,8 @@ pub fn answer_next<R: Threads + Sync, G: Gate + Sync>(
 }
 
 /// Adds what the last piece is answered with, which no end mark ends, and gives the answers.
-pub fn answer_last<R: Threads + Sync, G: Gate + Sync>(
-    team: &Team<'_, R, G>,
+pub fn answer_last<R: Threads + Sync, G: Gate + Sync, T: Teller>(
+    team: &Team<'_, R, G, T>,
     answering: Answering,
 ) -> Result<Answers, AllocError>
     requires none { answering.splitter.whole ≡ false }
@@ -102,18 +115,23 @@ pub fn answer_last<R: Threads + Sync, G: Gate + Sync>(
         mut session,
         splitter,
         mut answers,
+        lines,
     } = answering;
     let Some(cut) = splitter.finish() else {
         return Ok(answers);
     };
-    let _ends = answer_cut(team, alloc, &mut session, &cut, &mut answers)?;
+    let ending = Ending {
+        before: &lines,
+        bytes: &[],
+    };
+    let _ends = answer_cut(team, alloc, &mut session, &cut, &ending, &mut answers)?;
     Ok(answers)
 }
 
 /// Answers a whole script under these limits: its statements in turn, each in the state that the one before left, until one of them
 /// ends it.
-pub fn answer_script<R: Threads + Sync, G: Gate + Sync>(
-    team: &Team<'_, R, G>,
+pub fn answer_script<R: Threads + Sync, G: Gate + Sync, T: Teller>(
+    team: &Team<'_, R, G, T>,
     alloc: Global,
     limits: Limits,
     script: &[u8],
@@ -134,11 +152,12 @@ pub fn answer_script<R: Threads + Sync, G: Gate + Sync>(
 }
 
 /// Adds what a cut is answered with, and says whether it ends the script. A piece past the limit of the splitter is refused.
-fn answer_cut<R: Threads + Sync, G: Gate + Sync>(
-    team: &Team<'_, R, G>,
+fn answer_cut<R: Threads + Sync, G: Gate + Sync, T: Teller>(
+    team: &Team<'_, R, G, T>,
     alloc: Global,
     session: &mut Session,
     cut: &Cut,
+    ending: &Ending<'_>,
     answers: &mut Answers,
 ) -> Result<bool, AllocError>
     ensures adds { IfOk result (λ ends. (piece : List ℕ) → HasBytes piece cut.now.bytes
@@ -146,21 +165,27 @@ fn answer_cut<R: Threads + Sync, G: Gate + Sync>(
     ensures limits { OnOk result (session.new.limits ≡ session.old.limits) }
 {
     match &cut.bytes {
-        Some(bytes) => answer_piece(team, alloc, session, bytes, cut.offset, answers),
+        Some(bytes) => {
+            let offset = cut.offset;
+            answer_piece(team, alloc, session, bytes, offset, ending, answers)
+        }
         None => {
             add_refusal(alloc, StatementError::Long, cut.offset, answers)?;
+            team.teller
+                .tell(&refusal_of(None, ending.place(), StatementError::Long));
             Ok(false)
         }
     }
 }
 
 /// Adds what a piece at this offset is answered with, and says whether it ends the script.
-fn answer_piece<R: Threads + Sync, G: Gate + Sync>(
-    team: &Team<'_, R, G>,
+fn answer_piece<R: Threads + Sync, G: Gate + Sync, T: Teller>(
+    team: &Team<'_, R, G, T>,
     alloc: Global,
     session: &mut Session,
     piece: &[u8],
     offset: u64,
+    ending: &Ending<'_>,
     answers: &mut Answers,
 ) -> Result<bool, AllocError>
     ensures adds { IfOk result (λ ends. Adds (state_in session.old) session.old.limits.nodes piece.now offset ends (state_in session.new) answers.old.lines.items answers.old.refused answers.new.lines.items answers.new.refused) }
@@ -170,9 +195,22 @@ fn answer_piece<R: Threads + Sync, G: Gate + Sync>(
         Ok(Line::Finished) => return Ok(true),
         Ok(Line::Nothing) => (),
         Ok(Line::Printed(text)) => add_line(&text, answers)?,
-        Err(error) => add_refusal(alloc, error, offset, answers)?,
+        Err(error) => {
+            add_refusal(alloc, error, offset, answers)?;
+            team.teller
+                .tell(&refusal_of(Some(piece), ending.place(), error));
+        }
     }
     Ok(false)
+}
+
+/// The refusal of a statement that begins at this place, and these are its bytes, where they are kept.
+fn refusal_of(bytes: Option<&[u8]>, place: Place, error: StatementError) -> Refusal<'_> {
+    Refusal {
+        bytes,
+        place,
+        cause: Cause::Statement(error),
+    }
 }
 
 /// Adds a line.

@@ -5,10 +5,13 @@ mod answer;
 mod command_words_laws;
 mod count;
 mod laws;
+mod lines;
+mod notes;
 mod number;
 mod options;
 mod process;
 mod program;
+mod prompt;
 mod reading;
 mod script;
 mod smt;
@@ -24,7 +27,9 @@ pub use laws::{
     never_refused_is_unrefused, scripts_without_formulas, unrefused_scripts_have_no_refusal,
 };
 pub use process::{WordsError, finish, run_process};
-pub use program::{run, run_gated};
+pub use program::{run, run_gated, run_told};
+pub use prompt::Origin;
 pub use reading::options_of;
 pub use script::generated;
+pub use team::Team;
 pub use words::are_valid;

@@ -5,9 +5,14 @@ ghost use Rattle.program_meaning.specs.Ends.{ends};
 ghost use Rattle.program_meaning.specs.Numbers.{number_of};
 ghost use Rattle.redlog_run.specs.Process.{EndsWith, EndsProcess, Finishes};
 
-use crate::program::run;
+use crate::notes::{NotedSink, Notes};
+use crate::options::SMT_FLAG;
+use crate::program::{RunGate, run_told};
+use crate::prompt::{Origin, Prompted};
+use crate::team::Team;
 use program_meaning::{Sink, Source, Status};
-use qe_io::{StdSink, StdSource};
+use qe_io::{StdSink, StdSource, Teller};
+use qe_parallel::Gate;
 use std::alloc::Global;
 use std::env::{self, Env};
 use std::io::{self, ErrorKind, Read, Write};
@@ -27,25 +32,42 @@ pub enum WordsError {
 /// The form of the words, told on standard error where they have another one.
 const USAGE: &str = "usage: redlog [--nodes n] [--workers n] [--generate n | --smt] < script";
 
-/// The whole process: takes the words after the program's name, answers the script that the reader gives on the writer, and
-/// ends with the number of the status. That is one which `finish` allows for some words, over ends that have not failed yet and
+/// The whole process: takes the words after the program's name, answers the script that the reader gives on the writer, tells of each
+/// refusal on standard error, prompts a person who types the script, and ends with the number of the status. That is one which `finish` allows for some words, over ends that have not failed yet and
 /// that tell nothing of what they give and take.
 pub fn run_process<R: Env + AllocGlobal + Threads + Sync + Eprint, I: Read + Drop, O: Write + Drop>(
     rt: &R,
     input: I,
     output: O,
+    origin: Origin,
 ) -> ExitCode
     ensures { EndsWith result EndsProcess }
 {
+    let words = words(rt);
+    let notes = Notes::new(rt);
+    let input = Prompted::new(rt, input, origin_of(origin, &words));
     let mut source = StdSource::new(input);
-    let mut sink = StdSink::new(output);
-    finish(rt, rt.alloc(), words(rt), &mut source, &mut sink)
+    let mut sink = NotedSink::new(StdSink::new(output), &notes);
+    let team = Team {
+        rt,
+        gate: &RunGate,
+        teller: &notes,
+    };
+    finish(&team, rt.alloc(), words, &mut source, &mut sink)
+}
+
+/// A script in SMT-LIB is read to its end before it is answered, so nobody is prompted for it.
+fn origin_of(origin: Origin, words: &Result<Vec<String>, WordsError>) -> Origin {
+    match words {
+        Ok(words) if words.iter().any(|word| word.as_str() == SMT_FLAG) => Origin::Stream,
+        _ => origin,
+    }
 }
 
 /// Answers the script of the source, under these words, and gives what the process ends with: the number of the status. Where the
 /// words are not of the form that the program takes, a line on standard error says which that is.
-pub fn finish<R: Threads + Sync + Eprint, S: Source, K: Sink>(
-    rt: &R,
+pub fn finish<R: Threads + Sync + Eprint, S: Source, K: Sink, G: Gate + Sync, T: Teller>(
+    team: &Team<'_, R, G, T>,
     alloc: Global,
     words: Result<Vec<String>, WordsError>,
     source: &mut S,
@@ -55,9 +77,9 @@ pub fn finish<R: Threads + Sync + Eprint, S: Source, K: Sink>(
         (ends (S.left source.old) (S.faults source.old) (K.wrote sink.old) (K.faults sink.old))
         (ends (S.left source.new) (S.faults source.new) (K.wrote sink.new) (K.faults sink.new))) }
 {
-    let status = answer_words(rt, alloc, words, source, sink);
+    let status = answer_words(team, alloc, words, source, sink);
     if status == Status::Usage {
-        let _ = eprintln!(rt; "{USAGE}");
+        let _ = eprintln!(team.rt; "{USAGE}");
     }
     exit_code(status)
 }
@@ -70,8 +92,8 @@ fn exit_code(status: Status) -> ExitCode
 }
 
 /// Runs under these words.
-fn answer_words<R: Threads + Sync, S: Source, K: Sink>(
-    rt: &R,
+fn answer_words<R: Threads + Sync, S: Source, K: Sink, G: Gate + Sync, T: Teller>(
+    team: &Team<'_, R, G, T>,
     alloc: Global,
     words: Result<Vec<String>, WordsError>,
     source: &mut S,
@@ -82,7 +104,7 @@ fn answer_words<R: Threads + Sync, S: Source, K: Sink>(
         (ends (S.left source.new) (S.faults source.new) (K.wrote sink.new) (K.faults sink.new)) result }
 {
     match words {
-        Ok(words) => run(rt, alloc, &words, source, sink),
+        Ok(words) => run_told(team, alloc, &words, source, sink),
         Err(WordsError::NoText) => Status::Usage,
         Err(WordsError::Memory) => Status::Memory,
     }

@@ -17,6 +17,7 @@ use crate::team::Team;
 use crate::words::are_valid;
 use crate::write::write_answer;
 use program_meaning::{Language, Options, Sink, Source, Status};
+use qe_io::{Nobody, Teller};
 use qe_parallel::Gate;
 use smtlib_front::Limits;
 use std::alloc::{AllocError, Global};
@@ -33,7 +34,7 @@ const SHARED_FROM: u64 = 1_000_000;
 
 /// The gate of a run: it is passed at once, and shares out what is large enough to pay for threads.
 #[derive(Clone, Copy, Debug)]
-struct RunGate;
+pub(crate) struct RunGate;
 
 impl Gate for RunGate {
     fn pass(&self, _piece: usize) {}
@@ -75,18 +76,38 @@ pub fn run_gated<R: Threads + Sync, S: Source, K: Sink, G: Gate + Sync>(
         (ends (S.left source.old) (S.faults source.old) (K.wrote sink.old) (K.faults sink.old))
         (ends (S.left source.new) (S.faults source.new) (K.wrote sink.new) (K.faults sink.new)) result }
 {
+    let team = Team {
+        rt,
+        gate,
+        teller: &Nobody,
+    };
+    run_told(&team, alloc, words, source, sink)
+}
+
+/// The same, where the teller is told of each refusal, behind its line.
+pub fn run_told<R: Threads + Sync, S: Source, K: Sink, G: Gate + Sync, T: Teller>(
+    team: &Team<'_, R, G, T>,
+    alloc: Global,
+    words: &[String],
+    source: &mut S,
+    sink: &mut K,
+) -> Status
+    ensures { Claim words.now
+        (ends (S.left source.old) (S.faults source.old) (K.wrote sink.old) (K.faults sink.old))
+        (ends (S.left source.new) (S.faults source.new) (K.wrote sink.new) (K.faults sink.new)) result }
+{
     if !are_valid(words) {
         return Status::Usage;
     }
     match options_of(alloc, words) {
-        Ok(options) => answer_under(&Team { rt, gate }, alloc, options, source, sink),
+        Ok(options) => answer_under(team, alloc, options, source, sink),
         Err(_) => Status::Memory,
     }
 }
 
 /// Answers under these options.
-fn answer_under<R: Threads + Sync, S: Source, K: Sink, G: Gate + Sync>(
-    team: &Team<'_, R, G>,
+fn answer_under<R: Threads + Sync, S: Source, K: Sink, G: Gate + Sync, T: Teller>(
+    team: &Team<'_, R, G, T>,
     alloc: Global,
     options: Options,
     source: &mut S,
@@ -126,8 +147,8 @@ fn limits_of(options: Options) -> Limits
 }
 
 /// Answers the generated script with this number of statements in each theory, and writes the line that counts its answers.
-fn answer_generated<R: Threads + Sync, K: Sink, G: Gate + Sync>(
-    team: &Team<'_, R, G>,
+fn answer_generated<R: Threads + Sync, K: Sink, G: Gate + Sync, T: Teller>(
+    team: &Team<'_, R, G, T>,
     alloc: Global,
     limits: Limits,
     count: u32,
@@ -143,8 +164,8 @@ fn answer_generated<R: Threads + Sync, K: Sink, G: Gate + Sync>(
 }
 
 /// The line that counts the answers of the generated script, and whether one of them is a refusal.
-fn tallied<R: Threads + Sync, G: Gate + Sync>(
-    team: &Team<'_, R, G>,
+fn tallied<R: Threads + Sync, G: Gate + Sync, T: Teller>(
+    team: &Team<'_, R, G, T>,
     alloc: Global,
     limits: Limits,
     count: u32,

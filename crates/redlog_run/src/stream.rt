@@ -8,7 +8,7 @@ use crate::answer::{Answering, answer_last, answer_next, begin};
 use crate::team::Team;
 use crate::write::{pace_of, write_due, write_lines};
 use program_meaning::{Sink, Source, Status};
-use qe_io::{AnswerStop, StreamStop, write_all};
+use qe_io::{AnswerStop, StreamStop, Teller, write_all};
 use qe_parallel::Gate;
 use smtlib_front::Limits;
 use std::alloc::Global;
@@ -21,8 +21,8 @@ const SCRIPT_LIMIT: usize = 1_099_511_627_776;
 const READ_SIZE: usize = 16_384;
 
 /// Answers the script of the source: each piece as soon as it is read.
-pub fn answer_source<R: Threads + Sync, S: Source, K: Sink, G: Gate + Sync>(
-    team: &Team<'_, R, G>,
+pub fn answer_source<R: Threads + Sync, S: Source, K: Sink, G: Gate + Sync, T: Teller>(
+    team: &Team<'_, R, G, T>,
     alloc: Global,
     limits: Limits,
     source: &mut S,
@@ -37,8 +37,8 @@ pub fn answer_source<R: Threads + Sync, S: Source, K: Sink, G: Gate + Sync>(
 }
 
 /// Answers what one read after another gives, to the end of the source or of the script, and says whether some line is a refusal.
-fn answer_reads<R: Threads + Sync, S: Source, K: Sink, G: Gate + Sync>(
-    team: &Team<'_, R, G>,
+fn answer_reads<R: Threads + Sync, S: Source, K: Sink, G: Gate + Sync, T: Teller>(
+    team: &Team<'_, R, G, T>,
     alloc: Global,
     limits: Limits,
     source: &mut S,
@@ -74,8 +74,8 @@ fn answer_reads<R: Threads + Sync, S: Source, K: Sink, G: Gate + Sync>(
 }
 
 /// Answers the pieces that end in these bytes and writes their lines, and says whether a statement ended the script.
-fn answer_bytes<R: Threads + Sync, K: Sink, G: Gate + Sync>(
-    team: &Team<'_, R, G>,
+fn answer_bytes<R: Threads + Sync, K: Sink, G: Gate + Sync, T: Teller>(
+    team: &Team<'_, R, G, T>,
     sink: &mut K,
     answering: &mut Answering,
     bytes: &[u8],
@@ -107,8 +107,8 @@ fn answer_bytes<R: Threads + Sync, K: Sink, G: Gate + Sync>(
 }
 
 /// Answers the last piece, and writes its line.
-fn answer_end<R: Threads + Sync, K: Sink, G: Gate + Sync>(
-    team: &Team<'_, R, G>,
+fn answer_end<R: Threads + Sync, K: Sink, G: Gate + Sync, T: Teller>(
+    team: &Team<'_, R, G, T>,
     sink: &mut K,
     answering: Answering,
 ) -> Result<bool, AnswerStop>

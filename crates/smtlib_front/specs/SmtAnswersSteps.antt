@@ -48,7 +48,7 @@ pub record IsFront (s : State) (limit : ℕ) (bytes : List ℕ) (offset : ℕ) (
 -- what becomes of a command, by what the sink had taken, before and after
 abbrev pub AnswersSo : State → ℕ → List ℕ → ℕ → Option (List ℕ) → Option (List ℕ) → Seen → Result Step AnswerStop → Type 0
 AnswersSo s limit bytes offset wrote after m (Ok step.Accepted) = IsAdded s limit bytes offset wrote after m false
-AnswersSo s limit bytes offset wrote after m (Ok step.Refused) = IsAdded s limit bytes offset wrote after m true
+AnswersSo s limit bytes offset wrote after m (Ok (step.Refused cause)) = IsAdded s limit bytes offset wrote after m true
 AnswersSo s limit bytes offset wrote after m (Ok step.Last) = IsLast s limit bytes wrote after
 AnswersSo s limit bytes offset wrote after m (Err answer.Memory) = after ≡ wrote
 AnswersSo s limit bytes offset wrote after m (Err answer.Write) = IsFront s limit bytes offset wrote after

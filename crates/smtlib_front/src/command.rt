@@ -19,8 +19,8 @@ use std::thread::Threads;
 pub enum Step {
     /// It is answered.
     Accepted,
-    /// It is refused.
-    Refused,
+    /// It is refused, for this cause.
+    Refused(SmtError),
     /// It ends the script.
     Last,
 }
@@ -50,7 +50,7 @@ pub fn answer_command<R: Threads + Sync, G: Gate + Sync, K: Sink>(
         }
         Err(error) => {
             write_all(sink, &refusal_line(alloc, error, offset)?)?;
-            Ok(Step::Refused)
+            Ok(Step::Refused(error))
         }
     }
 }

@@ -9,17 +9,18 @@ use crate::reading::read_whole;
 use crate::smt::Smt;
 use engine_answers::Limits;
 use program_meaning::{Sink, Source};
-use qe_io::{AnswerStop, StreamStop};
+use qe_io::{AnswerStop, Cause, Place, Places, Refusal, StreamStop, Teller};
 use qe_parallel::Gate;
 use smt_tokens::smt_cuts;
 use std::alloc::Global;
 use std::thread::Threads;
 
 /// Answers the script in SMT-LIB that the source gives to its end, and says whether some line is a refusal. An elimination is worked on by
-/// as many threads of the runtime as the limits say; each passes the gate before a piece.
-pub fn answer_smt<R: Threads + Sync, G: Gate + Sync, S: Source, K: Sink>(
+/// as many threads of the runtime as the limits say; each passes the gate before a piece. The teller is told of each refusal, behind its line.
+pub fn answer_smt<R: Threads + Sync, G: Gate + Sync, T: Teller, S: Source, K: Sink>(
     rt: &R,
     gate: &G,
+    teller: &T,
     alloc: Global,
     limits: Limits,
     source: &mut S,
@@ -34,14 +35,15 @@ pub fn answer_smt<R: Threads + Sync, G: Gate + Sync, S: Source, K: Sink>(
         (ends (S.left source.new) (S.faults source.new) (K.wrote sink.new) (K.faults sink.new)) result }
 {
     let script = read_whole(alloc, source)?;
-    let refused = answer_script(rt, gate, alloc, limits, &script, sink)?;
+    let refused = answer_script(rt, gate, teller, alloc, limits, &script, sink)?;
     Ok(refused)
 }
 
 /// Answers the commands of a script in turn, each in the state that the one before left, until one of them ends it.
-fn answer_script<R: Threads + Sync, G: Gate + Sync, K: Sink>(
+fn answer_script<R: Threads + Sync, G: Gate + Sync, T: Teller, K: Sink>(
     rt: &R,
     gate: &G,
+    teller: &T,
     alloc: Global,
     limits: Limits,
     script: &[u8],
@@ -55,11 +57,19 @@ fn answer_script<R: Threads + Sync, G: Gate + Sync, K: Sink>(
     let cuts = smt_cuts(alloc, script)?;
     let mut smt = Smt::new(alloc, limits);
     let mut refused = false;
+    let mut places = Places::from(Place::FIRST);
     'cuts: for cut in &cuts {
         let command = &script[cut.start..cut.end];
         match answer_command(rt, gate, alloc, &mut smt, command, cut.start, sink)? {
             Step::Accepted => (),
-            Step::Refused => refused = true,
+            Step::Refused(error) => {
+                refused = true;
+                teller.tell(&Refusal {
+                    bytes: Some(command),
+                    place: places.reach(script, cut.start),
+                    cause: Cause::Command(error),
+                });
+            }
             Step::Last => return Ok(refused),
         }
     }

@@ -82,7 +82,7 @@ cuts-preserved g c =
     record {
       answering = elim c.match-branch-3.branch [
         | in-Accepted w ↦ subst P (sym (or_false c.cuts.refused) ∙ sym w.refused-is) (next false (step Accepted w.in-Accepted.is))
-        | in-Refused w ↦ subst P (sym (or_true c.cuts.refused) ∙ sym w.refused-is) (next true (step Refused w.in-Refused.is))
+        | in-Refused w ↦ subst P (sym (or_true c.cuts.refused) ∙ sym w.refused-is) (next true (step (Refused w.in-Refused.error) w.in-Refused.is))
       ];
       limits = search rules;
       no_fault = search rules;

@@ -1,5 +1,5 @@
 use Rattle.redlog_run.proofs.Claims.{claim_under, claim_memory}
-use Rattle.redlog_run.proofs.program.run_gated.Goals as goal
+use Rattle.redlog_run.proofs.program.run_told.Goals as goal
 
 pub returns-in-Ok : goal.returns-in-Ok
 returns-in-Ok g c = claim_under c.args.words.now c.in-Ok.options _ _ c.answer_under.result c.in-Ok.ensures.spelled c.answer_under.ensures
