@@ -7,7 +7,7 @@ ghost use Rattle.program_meaning.specs.Run.{RunOf};
 ghost use Rattle.redlog_run.specs.Adding.{Adds};
 ghost use Rattle.redlog_run.specs.Script.{Stands, StandsOrEnds};
 
-use crate::lines::{Ending, Lines};
+use crate::lines::{Lines, Part};
 use crate::team::Team;
 use program_meaning::{Line, StatementError};
 use qe_io::{Cause, Place, Refusal, Teller};
@@ -63,10 +63,11 @@ pub fn begin(alloc: Global, limits: Limits) -> Answering
 }
 
 /// Takes bytes through the first end mark, or all of them, and adds what the piece that ends there is answered with. Of a refusal
-/// is told too.
+/// is told too, with its place, for which the bytes count that were taken of the same read before.
 pub fn answer_next<R: Threads + Sync, G: Gate + Sync, T: Teller>(
     team: &Team<'_, R, G, T>,
     answering: &mut Answering,
+    earlier: &[u8],
     bytes: &[u8],
 ) -> Result<Step, AllocError>
     requires none { answering.old.splitter.whole ≡ false }
@@ -79,25 +80,26 @@ pub fn answer_next<R: Threads + Sync, G: Gate + Sync, T: Teller>(
     ensures count { IfOk result (λ step. answering.new.splitter.fed ≡ answering.old.splitter.fed + step.taken) }
 {
     let taken = answering.splitter.feed(bytes)?;
-    let before = answering.lines;
-    let Some(cut) = answering.splitter.next() else {
-        answering.lines.leave(&bytes[..taken]);
-        return Ok(Step { taken, ends: false });
-    };
-    answering.lines.end(&bytes[..taken]);
-    let ending = Ending {
-        before: &before,
+    let part = Part {
+        earlier,
         bytes: &bytes[..taken],
+        left: bytes.len() - taken,
+    };
+    let Some(cut) = answering.splitter.next() else {
+        answering.lines.leave(&part);
+        return Ok(Step { taken, ends: false });
     };
     let ends = answer_cut(
         team,
         answering.alloc,
         &mut answering.session,
         &cut,
-        &ending,
+        &part,
+        &mut answering.lines,
         &mut answering.answers,
     )?;
     answering.splitter.reuse(cut);
+    answering.lines.end(&part);
     Ok(Step { taken, ends })
 }
 
@@ -115,16 +117,25 @@ pub fn answer_last<R: Threads + Sync, G: Gate + Sync, T: Teller>(
         mut session,
         splitter,
         mut answers,
-        lines,
+        mut lines,
     } = answering;
     let Some(cut) = splitter.finish() else {
         return Ok(answers);
     };
-    let ending = Ending {
-        before: &lines,
+    let part = Part {
+        earlier: &[],
         bytes: &[],
+        left: 0,
     };
-    let _ends = answer_cut(team, alloc, &mut session, &cut, &ending, &mut answers)?;
+    let _ends = answer_cut(
+        team,
+        alloc,
+        &mut session,
+        &cut,
+        &part,
+        &mut lines,
+        &mut answers,
+    )?;
     Ok(answers)
 }
 
@@ -142,7 +153,7 @@ pub fn answer_script<R: Threads + Sync, G: Gate + Sync, T: Teller>(
     let mut answering = begin(alloc, limits);
     let mut taken = 0;
     while taken < script.len() {
-        let step = answer_next(team, &mut answering, &script[taken..])?;
+        let step = answer_next(team, &mut answering, &script[..taken], &script[taken..])?;
         if step.ends {
             return Ok(answering.answers);
         }
@@ -157,7 +168,8 @@ fn answer_cut<R: Threads + Sync, G: Gate + Sync, T: Teller>(
     alloc: Global,
     session: &mut Session,
     cut: &Cut,
-    ending: &Ending<'_>,
+    part: &Part<'_>,
+    lines: &mut Lines,
     answers: &mut Answers,
 ) -> Result<bool, AllocError>
     ensures adds { IfOk result (λ ends. (piece : List ℕ) → HasBytes piece cut.now.bytes
@@ -167,12 +179,12 @@ fn answer_cut<R: Threads + Sync, G: Gate + Sync, T: Teller>(
     match &cut.bytes {
         Some(bytes) => {
             let offset = cut.offset;
-            answer_piece(team, alloc, session, bytes, offset, ending, answers)
+            answer_piece(team, alloc, session, bytes, offset, part, lines, answers)
         }
         None => {
             add_refusal(alloc, StatementError::Long, cut.offset, answers)?;
             team.teller
-                .tell(&refusal_of(None, ending.place(), StatementError::Long));
+                .tell(&refusal_of(None, lines.place(part), StatementError::Long));
             Ok(false)
         }
     }
@@ -185,7 +197,8 @@ fn answer_piece<R: Threads + Sync, G: Gate + Sync, T: Teller>(
     session: &mut Session,
     piece: &[u8],
     offset: u64,
-    ending: &Ending<'_>,
+    part: &Part<'_>,
+    lines: &mut Lines,
     answers: &mut Answers,
 ) -> Result<bool, AllocError>
     ensures adds { IfOk result (λ ends. Adds (state_in session.old) session.old.limits.nodes piece.now offset ends (state_in session.new) answers.old.lines.items answers.old.refused answers.new.lines.items answers.new.refused) }
@@ -198,7 +211,7 @@ fn answer_piece<R: Threads + Sync, G: Gate + Sync, T: Teller>(
         Err(error) => {
             add_refusal(alloc, error, offset, answers)?;
             team.teller
-                .tell(&refusal_of(Some(piece), ending.place(), error));
+                .tell(&refusal_of(Some(piece), lines.place(part), error));
         }
     }
     Ok(false)

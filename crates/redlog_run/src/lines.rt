@@ -3,9 +3,11 @@ ghost use Rattle.std.specs.Prelude.{◌≤◌, length};
 use qe_io::{Place, PlaceCounter};
 use redlog_tokens::is_blank;
 
-/// Counts the lines of a script while its bytes come, step by step: the place of the next byte, and what is open before it.
+/// The places of the pieces of a script, whose bytes come read by read. Bytes are counted where a place is wanted, and where a read ends.
 #[derive(Clone, Copy)]
 pub struct Lines {
+    /// How many bytes of the read are counted.
+    counted: usize,
     next: PlaceCounter,
     open: Open,
 }
@@ -18,42 +20,63 @@ enum Open {
     Piece(Place),
 }
 
-/// A piece that ends with these bytes, behind what was counted. Its place is worked out where it is wanted.
+/// A part of a read: the bytes with which a piece ends, or the last ones, in which none does. Pieces end before it, at the end of the earlier
+/// bytes, and so many bytes are left behind it.
 #[derive(Clone, Copy)]
-pub struct Ending<'a> {
-    pub before: &'a Lines,
+pub struct Part<'a> {
+    pub earlier: &'a [u8],
     pub bytes: &'a [u8],
-}
-
-impl Ending<'_> {
-    /// The place of the first token of the piece.
-    pub fn place(&self) -> Place {
-        let mut lines = *self.before;
-        lines.leave(self.bytes);
-        match lines.open {
-            Open::Piece(place) => place,
-            Open::Blanks | Open::Comment => lines.next.place(),
-        }
-    }
+    pub left: usize,
 }
 
 impl Lines {
     /// Before the first byte of a script.
     pub fn new() -> Lines {
         Lines {
+            counted: 0,
             next: PlaceCounter::new(),
             open: Open::Blanks,
         }
     }
 
-    /// Passes bytes with which a piece ends.
-    pub fn end(&mut self, bytes: &[u8]) {
-        self.next.pass(bytes);
-        self.open = Open::Blanks;
+    /// The place of the first token of the piece that ends with this part, or of its end where it has none.
+    pub fn place(&mut self, part: &Part<'_>) -> Place {
+        self.reach(part.earlier);
+        let mut lines = *self;
+        lines.count(part.bytes);
+        match lines.open {
+            Open::Piece(place) => place,
+            Open::Blanks | Open::Comment => lines.next.place(),
+        }
     }
 
-    /// Passes bytes in which no piece ends.
-    pub fn leave(&mut self, bytes: &[u8]) {
+    /// Passes a part with which a piece ends.
+    pub fn end(&mut self, part: &Part<'_>) {
+        if part.left == 0 {
+            self.leave(part);
+            self.open = Open::Blanks;
+        }
+    }
+
+    /// Passes the last part of a read.
+    pub fn leave(&mut self, part: &Part<'_>) {
+        self.reach(part.earlier);
+        self.count(part.bytes);
+        self.counted = 0;
+    }
+
+    /// Counts the earlier bytes of a read, with which a piece ends.
+    fn reach(&mut self, earlier: &[u8]) {
+        let between = earlier.get(self.counted..).unwrap_or(&[]);
+        if !between.is_empty() {
+            self.next.pass(between);
+            self.counted = earlier.len();
+            self.open = Open::Blanks;
+        }
+    }
+
+    /// Counts bytes in which no piece ends, or whose last one is its end.
+    fn count(&mut self, bytes: &[u8]) {
         let before = self.before_piece(bytes);
         let (front, piece) = bytes.split_at(before);
         self.next.pass(front);

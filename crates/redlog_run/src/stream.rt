@@ -94,7 +94,7 @@ fn answer_bytes<R: Threads + Sync, K: Sink, G: Gate + Sync, T: Teller>(
     let pace = pace_of(bytes);
     let mut taken = 0;
     while taken < bytes.len() {
-        let step = answer_next(team, answering, &bytes[taken..])?;
+        let step = answer_next(team, answering, &bytes[..taken], &bytes[taken..])?;
         if step.ends {
             write_lines(sink, &mut answering.answers)?;
             return Ok(true);
