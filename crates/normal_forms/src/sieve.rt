@@ -14,7 +14,10 @@ use std::alloc::{AllocError, Global};
 use std::marker::Model;
 use std::mem;
 
-// So many lists are looked at one by one before they are put among the paths.
+// From so many lists on, paths pay: before that all lists are looked at one by one.
+const MANY: usize = 512;
+
+// Where there are paths, so many lists at most are looked at one by one.
 const FEW: usize = 16;
 
 /// Lists of atoms that came one after another, but for those in which an earlier one is within.
@@ -70,7 +73,8 @@ impl Sieve {
             return Ok(());
         }
         self.lines.push(line)?;
-        if FEW <= self.lines.len() - self.count {
+        let few = if self.count == 0 { MANY } else { FEW };
+        if few <= self.lines.len() - self.count {
             put_among(self.alloc, &mut self.paths, &self.lines, self.count)?;
             self.count = self.lines.len();
         }

@@ -25,7 +25,7 @@ returns-in_ok-put_among-clause-added c =
     let has : some_within c.args.self.now.lines c.args.line ≡ false = ap (some_within c.args.self.now.lines) (sym c.items.ensures) ∙ sym c.in_ok-has_within.ensures ∙ c.if-branch.false in
     ap swept (c.in_ok-push.ensures.items ∙ ap (λ (s : Sifted). s.lines ++ c.args.line ∷ []) c.self.view_is) ∙ swept_by c.args.self.now.lines c.args.line false has
 
-pub returns-else-len-self-ge-FEW-clause-added : goal.returns-else-len-self-ge-FEW-clause-added
-returns-else-len-self-ge-FEW-clause-added c =
+pub returns-else-few-len-clause-added : goal.returns-else-few-len-clause-added
+returns-else-few-len-clause-added c =
     let has : some_within c.args.self.now.lines c.args.line ≡ false = ap (some_within c.args.self.now.lines) (sym c.items.ensures) ∙ sym c.in_ok-has_within.ensures ∙ c.if-branch.false in
     ap swept (c.in_ok-push.ensures.items ∙ ap (λ (s : Sifted). s.lines ++ c.args.line ∷ []) c.self.view_is) ∙ swept_by c.args.self.now.lines c.args.line false has
