@@ -53,7 +53,9 @@ pub fn run_process<R: Env + AllocGlobal + Threads + Sync + Eprint, I: Read + Dro
         gate: &OpenGate::new(),
         teller: &notes,
     };
-    finish(&team, rt.alloc(), words, &mut source, &mut sink)
+    let code = finish(&team, rt.alloc(), words, &mut source, &mut sink);
+    notes.print();
+    code
 }
 
 /// A script in SMT-LIB is read to its end before it is answered, so nobody is prompted for it.
