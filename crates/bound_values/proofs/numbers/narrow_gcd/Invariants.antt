@@ -1,0 +1,4 @@
+use Rattle.bound_values.proofs.numbers.narrow_gcd.Given as goal
+
+abbrev pub decreases-loop-right : goal.decreases-loop-right
+decreases-loop-right l = l.right
