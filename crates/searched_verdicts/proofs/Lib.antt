@@ -1,0 +1,4 @@
+mod Descending
+mod UnderNames
+mod LowestValues
+mod Settling
