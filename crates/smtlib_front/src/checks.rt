@@ -10,9 +10,10 @@ ghost use Rattle.smtlib_front.specs.Words.{word_of_verdict, kept_by};
 use crate::kept::Kept;
 use crate::sentences::sentence_of;
 use crate::smt::Smt;
-use engine_answers::{Engine, Verdict, decided};
+use engine_answers::{Engine, Verdict};
 use program_meaning::{SmtError, SmtReply};
 use qe_parallel::Gate;
+use searched_verdicts::verdict_of;
 use std::alloc::{AllocError, Global};
 use std::thread::Threads;
 
@@ -45,7 +46,7 @@ impl Smt {
             limits: self.limits,
             gate,
         };
-        let verdict = decided(&engine, &mut self.store, sentence, count)?;
+        let verdict = verdict_of(&engine, &mut self.store, sentence, count)?;
         let line = word_of(self.alloc, &verdict)?;
         self.tidy()?;
         self.kept = kept_by(verdict);

@@ -43,8 +43,8 @@ returns-then-facts-gt-MOST_HEIGHT-clause-does g c =
     c.facts.result.height c.facts.ensures.facts.height_is c.if-facts-gt-MOST_HEIGHT.true c.sentence_of.ensures.kept)
 
 -- src/checks.rt:49:23
-pub decided-requires-clause-normal : goal.decided-requires-clause-normal
-decided-requires-clause-normal g c κs within =
+pub verdict_of-requires-clause-normal : goal.verdict_of-requires-clause-normal
+verdict_of-requires-clause-normal g c κs within =
     let m : Seen = the_view c.self.inside in
     let s : State = c.requires.state.0 in
     let r : Represents m s = subst (λ v. Represents v s) (sym c.self.view_is) c.requires.state.1 in
@@ -52,8 +52,8 @@ decided-requires-clause-normal g c κs within =
     c.facts.result.height c.facts.ensures.facts.height_is c.if-facts-gt-MOST_HEIGHT.false
 
 -- src/checks.rt:49:23
-pub decided-requires-clause-closed : goal.decided-requires-clause-closed
-decided-requires-clause-closed g c κs within =
+pub verdict_of-requires-clause-closed : goal.verdict_of-requires-clause-closed
+verdict_of-requires-clause-closed g c κs within =
     let m : Seen = the_view c.self.inside in
     let s : State = c.requires.state.0 in
     let r : Represents m s = subst (λ v. Represents v s) (sym c.self.view_is) c.requires.state.1 in
@@ -64,21 +64,21 @@ decided-requires-clause-closed g c κs within =
 pub returns-in_err-verdict-clause-does : goal.returns-in_err-verdict-clause-does
 returns-in_err-verdict-clause-does g c =
     let m : Seen = the_view c.self.inside in
-    let next : Seen = the_view (record c.self.inside { store = c.decided.new.store }) in
-    let keeps = keeps_then m.formulas c.sentence_of.new.store c.decided.new.store c.sentence_of.ensures.kept c.decided.ensures.kept in
+    let next : Seen = the_view (record c.self.inside { store = c.verdict_of.new.store }) in
+    let keeps = keeps_then m.formulas c.sentence_of.new.store c.verdict_of.new.store c.sentence_of.ensures.kept c.verdict_of.ensures.kept in
     let told : c.from_residual-in_err-verdict.result ≡ Err error.Memory = search rules in
     subst (λ v. (s : State) → Represents v s → Does s v.limits.nodes Check c.from_residual-in_err-verdict.result next) c.self.view_is
-    (λ s r. subst (λ q. Does s m.limits.nodes Check q next) (sym told) (memory_refused m s m.limits.nodes r Check c.decided.new.store m.asserted keeps refl))
+    (λ s r. subst (λ q. Does s m.limits.nodes Check q next) (sym told) (memory_refused m s m.limits.nodes r Check c.verdict_of.new.store m.asserted keeps refl))
 
 -- src/checks.rt:50:20
 pub returns-in_err-line-clause-does : goal.returns-in_err-line-clause-does
 returns-in_err-line-clause-does g c =
     let m : Seen = the_view c.self.inside in
-    let next : Seen = the_view (record c.self.inside { store = c.decided.new.store }) in
-    let keeps = keeps_then m.formulas c.sentence_of.new.store c.decided.new.store c.sentence_of.ensures.kept c.decided.ensures.kept in
+    let next : Seen = the_view (record c.self.inside { store = c.verdict_of.new.store }) in
+    let keeps = keeps_then m.formulas c.sentence_of.new.store c.verdict_of.new.store c.sentence_of.ensures.kept c.verdict_of.ensures.kept in
     let told : c.from_residual-in_err-line.result ≡ Err error.Memory = search rules in
     subst (λ v. (s : State) → Represents v s → Does s v.limits.nodes Check c.from_residual-in_err-line.result next) c.self.view_is
-    (λ s r. subst (λ q. Does s m.limits.nodes Check q next) (sym told) (memory_refused m s m.limits.nodes r Check c.decided.new.store m.asserted keeps refl))
+    (λ s r. subst (λ q. Does s m.limits.nodes Check q next) (sym told) (memory_refused m s m.limits.nodes r Check c.verdict_of.new.store m.asserted keeps refl))
 
 -- src/checks.rt:51:9
 pub tidy-requires : goal.tidy-requires
@@ -86,16 +86,16 @@ tidy-requires g c =
     let m : Seen = the_view c.self.inside in
     let s : State = c.requires.state.0 in
     let r : Represents m s = subst (λ v. Represents v s) (sym c.self.view_is) c.requires.state.1 in
-    record { state = (s, grown_state m s r c.decided.new.store (keeps_then m.formulas c.sentence_of.new.store c.decided.new.store c.sentence_of.ensures.kept c.decided.ensures.kept)) }
+    record { state = (s, grown_state m s r c.verdict_of.new.store (keeps_then m.formulas c.sentence_of.new.store c.verdict_of.new.store c.sentence_of.ensures.kept c.verdict_of.ensures.kept)) }
 
 -- src/checks.rt:51:9
 pub returns-in_err-tidy-clause-does : goal.returns-in_err-tidy-clause-does
 returns-in_err-tidy-clause-does g c =
     let m : Seen = the_view c.self.inside in
-    let keeps = keeps_then m.formulas c.sentence_of.new.store c.decided.new.store c.sentence_of.ensures.kept c.decided.ensures.kept in
+    let keeps = keeps_then m.formulas c.sentence_of.new.store c.verdict_of.new.store c.sentence_of.ensures.kept c.verdict_of.ensures.kept in
     let told : c.from_residual-in_err-tidy.result ≡ Err error.Memory = search rules in
     subst (λ v. (s : State) → Represents v s → Does s v.limits.nodes Check c.from_residual-in_err-tidy.result c.tidy.new.self) c.self.view_is
-    (λ s r. subst (λ q. Does s m.limits.nodes Check q c.tidy.new.self) (sym told) (record { cause = inl refl; represents = c.tidy.ensures.state s (grown_state m s r c.decided.new.store keeps) }))
+    (λ s r. subst (λ q. Does s m.limits.nodes Check q c.tidy.new.self) (sym told) (record { cause = inl refl; represents = c.tidy.ensures.state s (grown_state m s r c.verdict_of.new.store keeps) }))
 
 -- src/checks.rt:52:9
 pub invariant_of-self-3 : goal.invariant_of-self-3
@@ -114,10 +114,10 @@ returns-clause-does g c =
     let m : Seen = the_view c.self.inside in
     let after : Seen = the_view c.self-2.inside in
     let next : Seen = the_view (record c.self-2.inside { kept = c.kept_by.result }) in
-    let keeps = keeps_then m.formulas c.sentence_of.new.store c.decided.new.store c.sentence_of.ensures.kept c.decided.ensures.kept in
+    let keeps = keeps_then m.formulas c.sentence_of.new.store c.verdict_of.new.store c.sentence_of.ensures.kept c.verdict_of.ensures.kept in
     subst (λ v. (s : State) → Represents v s → IsAnswered s v.limits.nodes Check (reply.Printed c.in_ok-line.line) next) c.self.view_is
     (λ s r.
-    let left : Represents after s = subst (λ v. Represents v s) (sym c.self-2.view_is) (c.tidy.ensures.state s (grown_state m s r c.decided.new.store keeps)) in
+    let left : Represents after s = subst (λ v. Represents v s) (sym c.self-2.view_is) (c.tidy.ensures.state s (grown_state m s r c.verdict_of.new.store keeps)) in
     subst (λ k. IsAnswered s m.limits.nodes Check (reply.Printed c.in_ok-line.line) (record after { kept = k })) (sym c.kept_by.ensures)
     (check_answered m s m.limits.nodes r c.in-Some.context c.in-Some.is c.sentence_of.new.store c.in_ok-sentence.sentence c.count-count.result c.count-count.ensures c.deref.result.now c.deref.ensures.value c.in_ok-sentence.ensures.made
     c.facts.result.height c.facts.ensures.facts.height_is c.if-facts-gt-MOST_HEIGHT.false c.in_ok-verdict.verdict c.in_ok-verdict.ensures.verdict after left c.in_ok-line.line c.in_ok-line.ensures))
