@@ -1,0 +1,6 @@
+(declare-const a Int)
+(declare-const b Int)
+(declare-const c Int)
+(declare-const d Int)
+(assert (exists ((x Int)) (and (= (mod (+ x (* (- 1) a)) 3) 0) (= (mod (+ x (* (- 1) b)) 5) 0) (= (mod (+ x (* (- 1) c)) 7) 0) (= (mod (+ x (* (- 1) d)) 11) 0) (<= 0 x) (< x 1000))))
+(apply qe)
